@@ -42,9 +42,9 @@ given_goes_on : (opening : Tables) (key : QKey) (earlier old new : Seen) → IsB
 given_goes_on opening key earlier old new begins given h = record {
   late = h.late;
   within = let k = more-length (more_is_known old new begins) in let w = h.within in omega (arith, k, w);
-  right = λ told.
+  right = λ telling.
       more_is_right (answer_after opening key) (known_of old.events) (known_of new.events) given.value given.stamp (more_is_known old new begins) h.within
-      (h.right (was_not old.stopped new.stopped begins.stopped told));
+      (h.right (was_not old.stopped new.stopped begins.stopped telling));
 }
 
 lease_goes_on : (opening : Tables) (shards : ℕ) (answers : List Answer) (old new : Seen) → IsBeginning old new → (lease : Leased)
@@ -164,7 +164,7 @@ answered_is_bound opening shards book seen given shows h =
                 (record {
                   late = let k = more-length (more_is_known old.earlier seen old.begins) in let s = shows.stamped in omega (arith, k, s);
                   within = let s = shows.stamped in omega (arith, s);
-                  right = λ told. subst (λ k. IsRight (answer_after opening k) (commits_of seen.events) given.value given.stamp) (sym same) (shows.right told);
+                  right = λ telling. subst (λ k. IsRight (answer_after opening k) (commits_of seen.events) given.value given.stamp) (sym same) (shows.right telling);
                 });
           };
       held = h.held;

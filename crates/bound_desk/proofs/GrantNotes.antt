@@ -27,7 +27,7 @@ use Rattle.key_freshness.proofs.MarkLemmas.{by_test}
 use Rattle.bound_hub.specs.Gets.{IsLastStep}
 use Rattle.bound_hub.specs.Shorts.{granted_short}
 use Rattle.bound_hub.specs.Stores.{IsGrantSeen, ShowsCommit, ShowsEnd}
-use Rattle.bound_hub.specs.Told.{quarantine_short}
+use Rattle.bound_hub.specs.StepShorts.{quarantine_short}
 use Rattle.bound_hub.proofs.SessionLemmas.{closed_is_over}
 use Rattle.desk_book.specs.Books.{Book, Held, is_of, is_present, all_but, with_commit, with_end, with_grant, without_grant}
 use Rattle.desk_book.specs.Apart.{is_held}
@@ -169,10 +169,10 @@ both_give P Q R (Err e) f p q = tt
 -- so it is with what an answer to a quarantine brings, if there is one
 pub answer_brings : {E : Type 0} (terms : Terms) (past : List Step) (key : QKey) (who : Sid) (mode : Mode) (shift : ℤ) (now : ℕ) (shards place : ℕ) (seen : Seen) (has : Bool) (result : Result QAnswer E)
     → place ≡ shard_of key shards → IfOk result (ShowsQuarantine terms past (quarantine_step terms past key who mode shift now))
-    → IfOk result (λ told. IsLastStep place (quarantine_short key who mode shift told has) seen)
+    → IfOk result (λ answer. IsLastStep place (quarantine_short key who mode shift answer has) seen)
     → IfOk result (IsGrantFor shards seen (old_value mode (entry key past)))
 answer_brings terms past key who mode shift now shards place seen has result at =
-    both_give (ShowsQuarantine terms past (quarantine_step terms past key who mode shift now)) (λ told. IsLastStep place (quarantine_short key who mode shift told has) seen)
+    both_give (ShowsQuarantine terms past (quarantine_step terms past key who mode shift now)) (λ answer. IsLastStep place (quarantine_short key who mode shift answer has) seen)
     (IsGrantFor shards seen (old_value mode (entry key past))) result
-    (λ told shows last. quarantine_brings terms past key who mode shift now shards seen told has shows
-    (subst (λ n. IsLastStep n (quarantine_short key who mode shift told has) seen) at last))
+    (λ answer shows last. quarantine_brings terms past key who mode shift now shards seen answer has shows
+    (subst (λ n. IsLastStep n (quarantine_short key who mode shift answer has) seen) at last))

@@ -20,7 +20,7 @@ use Rattle.bound_hub.specs.Gets.{IsLastStep}
 use Rattle.bound_hub.specs.Olds.{IsOldHeld, IsRaiseHeld}
 use Rattle.bound_hub.specs.Shorts.{raised_short}
 use Rattle.bound_hub.specs.Stores.{IsGrantSeen}
-use Rattle.bound_hub.specs.Told.{raise_short}
+use Rattle.bound_hub.specs.StepShorts.{raise_short}
 use Rattle.desk_book.specs.Books.{Book, Held, all_raised, raised, with_raised}
 use Rattle.desk_book.proofs.PermitLemmas.{raised-back}
 use Rattle.bound_desk.specs.Bound.{IsBoundBook}
@@ -51,12 +51,12 @@ raised_is_bound opening shards book seen permit old h = record {
 
 module _ (opening : Tables) (before : ℕ → List Step) (shards : ℕ) where
   -- what is known of the answer to a raise of this grant
-  pub record IsBrought (grant : Permit) (old : Option (List ℕ × ℕ)) (seen : Seen) (told : Raising) : Type 0 where
-    pub last : told ≢ raising.Gone → (has : Bool) × IsLastStep (shard_of grant.key shards) (raise_short grant.key grant.sid grant.token told has) seen
-    pub held : IsRaiseHeld opening (before (shard_of grant.key shards)) (shard_of grant.key shards) seen grant.key told
-    pub brings : IsRaiseFor grant old told
-    pub alone : IsRaiseAlone opening before shards seen told
-    pub belongs : IsRaiseOf grant told
+  pub record IsBrought (grant : Permit) (old : Option (List ℕ × ℕ)) (seen : Seen) (answer : Raising) : Type 0 where
+    pub last : answer ≢ raising.Gone → (has : Bool) × IsLastStep (shard_of grant.key shards) (raise_short grant.key grant.sid grant.token answer has) seen
+    pub held : IsRaiseHeld opening (before (shard_of grant.key shards)) (shard_of grant.key shards) seen grant.key answer
+    pub brings : IsRaiseFor grant old answer
+    pub alone : IsRaiseAlone opening before shards seen answer
+    pub belongs : IsRaiseOf grant answer
 
   -- a grant that came back raised stands alone
   back_stood : (lent back : Permit) (has : Bool) (seen : Seen) (old : Option (List ℕ × ℕ)) → IsRaised lent back
@@ -68,32 +68,32 @@ module _ (opening : Tables) (before : ℕ → List Step) (shards : ℕ) where
       (stood_raised opening before shards (raised lent) has seen old refl last held)
 
   -- what a raise brings, by its step
-  raise_brings : (past : List Step) (grant : Permit) (seen : Seen) (told : Raising) (has : Bool) → ShowsRaise past grant (raise_step past grant) told
-      → IsLastStep (shard_of grant.key shards) (raise_short grant.key grant.sid grant.token told has) seen
-      → IsRaiseHeld opening (before (shard_of grant.key shards)) (shard_of grant.key shards) seen grant.key told
-      → IsRaiseFor grant (entry grant.key past) told × IsRaiseAlone opening before shards seen told
-  raise_brings past grant seen told has =
+  raise_brings : (past : List Step) (grant : Permit) (seen : Seen) (answer : Raising) (has : Bool) → ShowsRaise past grant (raise_step past grant) answer
+      → IsLastStep (shard_of grant.key shards) (raise_short grant.key grant.sid grant.token answer has) seen
+      → IsRaiseHeld opening (before (shard_of grant.key shards)) (shard_of grant.key shards) seen grant.key answer
+      → IsRaiseFor grant (entry grant.key past) answer × IsRaiseAlone opening before shards seen answer
+  raise_brings past grant seen answer has =
       let F : Raising → Type 0 = λ a. IsLastStep (shard_of grant.key shards) (raise_short grant.key grant.sid grant.token a has) seen
       → IsRaiseHeld opening (before (shard_of grant.key shards)) (shard_of grant.key shards) seen grant.key a
       → IsRaiseFor grant (entry grant.key past) a × IsRaiseAlone opening before shards seen a in
-      raise_cases (λ s. ShowsRaise past grant s told → F told) past grant
+      raise_cases (λ s. ShowsRaise past grant s answer → F answer) past grant
       (λ _ shows. subst F (sym shows) (λ last held. ((raised_is grant, refl), back_stood grant _ has seen _ (raised_is grant) last held)))
       (λ other at shows. subst F (sym shows) (λ last held. (tt, tt)))
       (λ shows. subst F (sym shows) (λ last held. (tt, tt)))
 
   -- what is known where its step is the last that is seen
-  brought_by_step : (past : List Step) (grant : Permit) (seen : Seen) (told : Raising) (has : Bool) → ShowsRaise past grant (raise_step past grant) told
-      → IsLastStep (shard_of grant.key shards) (raise_short grant.key grant.sid grant.token told has) seen
-      → IsRaiseHeld opening (before (shard_of grant.key shards)) (shard_of grant.key shards) seen grant.key told
-      → IsBrought grant (entry grant.key past) seen told
-  brought_by_step past grant seen told has shows last held =
-      let both = raise_brings past grant seen told has shows last held in
+  brought_by_step : (past : List Step) (grant : Permit) (seen : Seen) (answer : Raising) (has : Bool) → ShowsRaise past grant (raise_step past grant) answer
+      → IsLastStep (shard_of grant.key shards) (raise_short grant.key grant.sid grant.token answer has) seen
+      → IsRaiseHeld opening (before (shard_of grant.key shards)) (shard_of grant.key shards) seen grant.key answer
+      → IsBrought grant (entry grant.key past) seen answer
+  brought_by_step past grant seen answer has shows last held =
+      let both = raise_brings past grant seen answer has shows last held in
       record {
         last = λ _. (has, last);
         held = held;
         brings = both.0;
         alone = both.1;
-        belongs = raise_belongs past grant (raise_step past grant) told shows;
+        belongs = raise_belongs past grant (raise_step past grant) answer shows;
       }
 
   -- a grant that isn't out is gone
@@ -108,19 +108,19 @@ module _ (opening : Tables) (before : ℕ → List Step) (shards : ℕ) where
 
   brought_if : {E : Type 0} (past : List Step) (grant : Permit) (place : ℕ) (seen : Seen) (has : Bool) (result : Result Raising E) → place ≡ shard_of grant.key shards
       → IfOk result (ShowsRaise past grant (raise_step past grant))
-      → IfOk result (λ told. IsLastStep place (raise_short grant.key grant.sid grant.token told has) seen)
+      → IfOk result (λ answer. IsLastStep place (raise_short grant.key grant.sid grant.token answer has) seen)
       → IfOk result (IsRaiseHeld opening (before place) place seen grant.key)
       → IfOk result (IsBrought grant (entry grant.key past) seen)
-  brought_if past grant place seen has (Ok told) at shows last held =
-      brought_by_step past grant seen told has shows
-      (subst (λ n. IsLastStep n (raise_short grant.key grant.sid grant.token told has) seen) at last)
-      (subst (λ n. IsRaiseHeld opening (before n) n seen grant.key told) at held)
+  brought_if past grant place seen has (Ok answer) at shows last held =
+      brought_by_step past grant seen answer has shows
+      (subst (λ n. IsLastStep n (raise_short grant.key grant.sid grant.token answer has) seen) at last)
+      (subst (λ n. IsRaiseHeld opening (before n) n seen grant.key answer) at held)
   brought_if past grant place seen has (Err back) at shows last held = tt
 
   -- so it is with the answer to a raise, if there is one
   pub answer_brought : {E : Type 0} (out : Bool) (past : List Step) (grant : Permit) (place : ℕ) (seen : Seen) (has : Bool) (result : Result Raising E) → place ≡ shard_of grant.key shards
       → (out ≡ true → IfOk result (ShowsRaise past grant (raise_step past grant)))
-      → (out ≡ true → IfOk result (λ told. IsLastStep place (raise_short grant.key grant.sid grant.token told has) seen))
+      → (out ≡ true → IfOk result (λ answer. IsLastStep place (raise_short grant.key grant.sid grant.token answer has) seen))
       → (out ≡ true → IfOk result (IsRaiseHeld opening (before place) place seen grant.key))
       → (out ≡ false → result ≡ Ok raising.Gone)
       → IfOk result (IsBrought grant (entry grant.key past) seen)

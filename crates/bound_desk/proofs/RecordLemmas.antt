@@ -22,10 +22,10 @@ use Rattle.key_shard.specs.Permit.{Permit}
 use Rattle.key_shard.specs.Shards.{ShardView, past_of, refusal, Refuses}
 use Rattle.session_client.specs.declared.replies.Fault.TheVariants as fault
 use Rattle.session_client.specs.declared.replies.Reply.{Reply}
-use Rattle.session_client.specs.declared.replies.Reply.TheVariants as reply
+use Rattle.session_client.specs.declared.replies.Reply.TheVariants as Reply
 use Rattle.session_client.specs.declared.replies.Wanted.{Wanted}
 use Rattle.session_client.specs.declared.replies.Wanted.TheVariants as wanted
-use Rattle.session_client.specs.Desks.{Call, Began, Asked, IsFirst}
+use Rattle.session_client.specs.Desks.{Exchange, Began, Asked, IsFirst}
 use Rattle.executor.specs.OnShard.{fault_of}
 use Rattle.executor.specs.Requests.{key_of}
 use Rattle.log_word.specs.declared.events.Short.{Short}
@@ -40,7 +40,7 @@ use Rattle.bound_hub.specs.Gets.{got_short, IsLastStep}
 use Rattle.bound_hub.specs.Shorts.{shorts_of}
 use Rattle.bound_hub.specs.Spent.{HasNoToken, HasSeenAll, IsSeenSpent, SeesSpent}
 use Rattle.bound_hub.specs.Stores.{ShowsBegin}
-use Rattle.bound_hub.specs.Told.{quarantine_short}
+use Rattle.bound_hub.specs.StepShorts.{quarantine_short}
 use Rattle.desk_book.specs.Books.{Book, first_book}
 use Rattle.desk_book.specs.Borne.{IsBorne, IsForm, IsPut}
 use Rattle.desk_book.specs.Made.{made_in}
@@ -73,28 +73,28 @@ spent_goes_on : (terms : Terms) (before : List Step) (number : ℕ) (old new : S
     → IsSeenSpent terms before number old → IsSeenSpent terms before number new
 spent_goes_on terms before number old new begins h = record {
   more = h.more;
-  told = start_trans (shorts_of before h.more) (steps_of number old.steps) (steps_of number new.steps) h.told (begins.steps number);
+  shorts_are = start_trans (shorts_of before h.more) (steps_of number old.steps) (steps_of number new.steps) h.shorts_are (begins.steps number);
   last = h.last;
 }
 
 -- what a first request leaves is still seen
-shows_goes_on : (terms : ℕ → Terms) (before : ℕ → List Step) (shards : ℕ) (who : Sid) (told : Reply) (old new : Seen) → IsBeginning old new
-    → ShowsFirst terms before shards who told old → ShowsFirst terms before shards who told new
-shows_goes_on terms before shards who (reply.Fault fault.Memory) old new begins h = tt
-shows_goes_on terms before shards who (reply.Fault fault.Keep) old new begins h = absurd h
-shows_goes_on terms before shards who (reply.Fault fault.Spent) old new begins h =
+shows_goes_on : (terms : ℕ → Terms) (before : ℕ → List Step) (shards : ℕ) (who : Sid) (reply : Reply) (old new : Seen) → IsBeginning old new
+    → ShowsFirst terms before shards who reply old → ShowsFirst terms before shards who reply new
+shows_goes_on terms before shards who (Reply.Fault fault.Memory) old new begins h = tt
+shows_goes_on terms before shards who (Reply.Fault fault.Keep) old new begins h = absurd h
+shows_goes_on terms before shards who (Reply.Fault fault.Spent) old new begins h =
     (let number = shard_of h.0 shards in (h.0, spent_goes_on (terms number) (before number) number old new begins h.1))
 shows_goes_on terms before shards who other old new begins h = named_goes_on shards who old new begins h
 
 -- so is a call, and so are all calls
-call_goes_on : (terms : ℕ → Terms) (before : ℕ → List Step) (shards worker : ℕ) (latest : Option (Sid × Bool)) (call : Call) (old new : Seen)
+call_goes_on : (terms : ℕ → Terms) (before : ℕ → List Step) (shards worker : ℕ) (latest : Option (Sid × Bool)) (call : Exchange) (old new : Seen)
     → IsBeginning old new → IsCallSeen terms before shards worker latest call old → IsCallSeen terms before shards worker latest call new
 call_goes_on terms before shards worker latest (Began writes who) old new begins h =
     among_goes_on (Begin who worker writes) old.events new.events begins.events h
-call_goes_on terms before shards worker latest (Asked who request told) old new begins h =
-    λ first is same asked. shows_goes_on terms before shards who told old new begins (h first is same asked)
+call_goes_on terms before shards worker latest (Asked who request reply) old new begins h =
+    λ first is same asked. shows_goes_on terms before shards who reply old new begins (h first is same asked)
 
-calls_go_on : (terms : ℕ → Terms) (before : ℕ → List Step) (shards worker : ℕ) (calls : List Call) (old new : Seen)
+calls_go_on : (terms : ℕ → Terms) (before : ℕ → List Step) (shards worker : ℕ) (calls : List Exchange) (old new : Seen)
     → IsBeginning old new → AreCallsSeen terms before shards worker calls old → AreCallsSeen terms before shards worker calls new
 calls_go_on terms before shards worker [] old new begins h = tt
 calls_go_on terms before shards worker (call ∷ calls) old new begins h = (
@@ -102,7 +102,7 @@ calls_go_on terms before shards worker (call ∷ calls) old new begins h = (
   calls_go_on terms before shards worker calls old new begins h.1,
 )
 
-pub record_goes_on : (terms : ℕ → Terms) (before : ℕ → List Step) (shards worker : ℕ) (calls : List Call) (old new : Seen)
+pub record_goes_on : (terms : ℕ → Terms) (before : ℕ → List Step) (shards worker : ℕ) (calls : List Exchange) (old new : Seen)
     → IsBeginning old new → IsRecordSeen terms before shards worker calls old → IsRecordSeen terms before shards worker calls new
 record_goes_on terms before shards worker calls old new begins h = record {
   each = calls_go_on terms before shards worker calls old new begins h.each;
@@ -121,12 +121,12 @@ begun_by who worker writes (event ∷ events) h =
     h
 
 -- so each session of the record has
-began_has_begun : (terms : ℕ → Terms) (before : ℕ → List Step) (shards worker : ℕ) (calls : List Call) (seen : Seen)
+began_has_begun : (terms : ℕ → Terms) (before : ℕ → List Step) (shards worker : ℕ) (calls : List Exchange) (seen : Seen)
     → AreCallsSeen terms before shards worker calls seen → AllByRecursion (λ (who : Sid). has_begun who.number seen.events ≡ true) (began_in calls)
 began_has_begun terms before shards worker [] seen h = tt
 began_has_begun terms before shards worker (Began writes who ∷ calls) seen h =
     (begun_by who worker writes seen.events h.0, began_has_begun terms before shards worker calls seen h.1)
-began_has_begun terms before shards worker (Asked who request told ∷ calls) seen h = began_has_begun terms before shards worker calls seen h.1
+began_has_begun terms before shards worker (Asked who request reply ∷ calls) seen h = began_has_begun terms before shards worker calls seen h.1
 
 -- a session that hasn't begun is none of those that have
 differs : (who : Sid) (events : List StoreEvent) → has_begun who.number events ≡ false → (other : Sid)
@@ -138,7 +138,7 @@ differs who events none other some =
     (cases_Bool (who.number == other.number))
 
 -- a session that begins
-pub record_with_begin : (terms : ℕ → Terms) (before : ℕ → List Step) (shards worker begun_before : ℕ) (writes : Bool) (calls : List Call) (old new : Seen) (who : Sid)
+pub record_with_begin : (terms : ℕ → Terms) (before : ℕ → List Step) (shards worker begun_before : ℕ) (writes : Bool) (calls : List Exchange) (old new : Seen) (who : Sid)
     → IsBeginning old new → has_begun who.number old.events ≡ false → ShowsBegin begun_before worker writes new who
     → IsRecordSeen terms before shards worker calls old → IsRecordSeen terms before shards worker (Began writes who ∷ calls) new
 record_with_begin terms before shards worker begun_before writes calls old new who goes none shows h = record {
@@ -150,10 +150,10 @@ record_with_begin terms before shards worker begun_before writes calls old new w
 }
 
 -- a request with its reply
-pub record_with_reply : (terms : ℕ → Terms) (before : ℕ → List Step) (shards worker : ℕ) (calls : List Call) (old new : Seen) (who : Sid) (request : Wanted) (told : Reply)
-    → IsBeginning old new → ForSome (latest_in calls) (λ first. first.0 ≡ who → IsFirst first.1 request → ShowsFirst terms before shards who told new)
-    → IsRecordSeen terms before shards worker calls old → IsRecordSeen terms before shards worker (Asked who request told ∷ calls) new
-record_with_reply terms before shards worker calls old new who request told begins shows h = record {
+pub record_with_reply : (terms : ℕ → Terms) (before : ℕ → List Step) (shards worker : ℕ) (calls : List Exchange) (old new : Seen) (who : Sid) (request : Wanted) (reply : Reply)
+    → IsBeginning old new → ForSome (latest_in calls) (λ first. first.0 ≡ who → IsFirst first.1 request → ShowsFirst terms before shards who reply new)
+    → IsRecordSeen terms before shards worker calls old → IsRecordSeen terms before shards worker (Asked who request reply ∷ calls) new
+record_with_reply terms before shards worker calls old new who request reply begins shows h = record {
   each = (shows, calls_go_on terms before shards worker calls old new begins h.each);
   once = h.once;
 }
@@ -189,18 +189,18 @@ last_names shards key step who seen names last = record {
 }
 
 pub got_is_first : (terms : ℕ → Terms) (before : ℕ → List Step) (shards : ℕ) (key : QKey) (who : Sid) (answer : Got) (has : Bool) (seen : Seen)
-    → IsLastStep (shard_of key shards) (got_short key who answer has) seen → ShowsFirst terms before shards who (reply.Got answer) seen
+    → IsLastStep (shard_of key shards) (got_short key who answer has) seen → ShowsFirst terms before shards who (Reply.Got answer) seen
 got_is_first terms before shards key who answer has seen last =
     last_names shards key (got_short key who answer has) who seen (got_names key who answer has) last
 
 pub quarantine_is_first : (terms : ℕ → Terms) (before : ℕ → List Step) (shards : ℕ) (key : QKey) (who : Sid) (mode : Mode) (by : ℤ) (answer : QAnswer) (has : Bool) (seen : Seen)
-    → IsLastStep (shard_of key shards) (quarantine_short key who mode by answer has) seen → ShowsFirst terms before shards who (reply.Quar answer) seen
+    → IsLastStep (shard_of key shards) (quarantine_short key who mode by answer has) seen → ShowsFirst terms before shards who (Reply.Quar answer) seen
 quarantine_is_first terms before shards key who mode by answer has seen last =
     last_names shards key (quarantine_short key who mode by answer has) who seen (quarantine_names key who mode by answer has) last
 
 -- a shard that refused had no token left, or there was no memory
 pub refused_is_first : (terms : ℕ → Terms) (before : ℕ → List Step) (shards : ℕ) (key : QKey) (who : Sid) (fault : ShardFault) (seen : Seen)
-    → SeesSpent terms before (shard_of key shards) seen fault → ShowsFirst terms before shards who (reply.Fault (fault_of fault)) seen
+    → SeesSpent terms before (shard_of key shards) seen fault → ShowsFirst terms before shards who (Reply.Fault (fault_of fault)) seen
 refused_is_first terms before shards key who (faults.Spent next) seen h = (key, h)
 refused_is_first terms before shards key who faults.Memory seen h = tt
 refused_is_first terms before shards key who (faults.Stranger shard) seen h = tt
@@ -241,7 +241,7 @@ pub spent_is_seen : (terms : ℕ → Terms) (before : ℕ → List Step) (shard 
     → SeesSpent terms before shard.terms.no seen fault
 spent_is_seen terms before shard seen (faults.Spent next) named all none = record {
   more = all.more;
-  told = start_is (shorts_of (before shard.terms.no) all.more) (steps_of shard.terms.no seen.steps) (sym all.told);
+  shorts_are = start_is (shorts_of (before shard.terms.no) all.more) (steps_of shard.terms.no seen.steps) (sym all.shorts_are);
   last = ap (λ (t : Terms). next_token t (all.more ++ before shard.terms.no)) (sym named) ∙ ap (next_token shard.terms) (sym all.goes_on) ∙ none;
 }
 spent_is_seen terms before shard seen faults.Memory named all none = tt
@@ -273,41 +273,41 @@ no_put_at_first true request h put = absurd h
 no_put_at_first false request h put = absurd h
 
 -- before its first call a desk has nothing to be seen, and a fresh book
-pub nothing_recorded : (terms : ℕ → Terms) (before : ℕ → List Step) (shards worker : ℕ) (calls : List Call) (seen : Seen) → calls ≡ []
+pub nothing_recorded : (terms : ℕ → Terms) (before : ℕ → List Step) (shards worker : ℕ) (calls : List Exchange) (seen : Seen) → calls ≡ []
     → IsRecordSeen terms before shards worker calls seen
 unfolding IsDistinct
 nothing_recorded terms before shards worker calls seen none =
     subst (λ l. IsRecordSeen terms before shards worker l seen) (sym none) (record { each = tt; once = tt })
 
-pub nothing_begun : (calls : List Call) (book : Book) → calls ≡ [] → IsFreshBook calls book
+pub nothing_begun : (calls : List Exchange) (book : Book) → calls ≡ [] → IsFreshBook calls book
 nothing_begun calls book none = λ first is. absurd (none-some first (sym (ap latest_in none) ∙ is))
 
 -- behind a request its book isn't said to be fresh
-pub asked_since : (calls earlier : List Call) (who : Sid) (request : Wanted) (told : Reply) (book : Book) → calls ≡ Asked who request told ∷ earlier
+pub asked_since : (calls earlier : List Exchange) (who : Sid) (request : Wanted) (reply : Reply) (book : Book) → calls ≡ Asked who request reply ∷ earlier
     → IsFreshBook calls book
-asked_since calls earlier who request told book e = λ first is. absurd (none-some first (sym (ap latest_in e) ∙ is))
+asked_since calls earlier who request reply book e = λ first is. absurd (none-some first (sym (ap latest_in e) ∙ is))
 
 -- behind a begin it is
-pub begun_since : (calls earlier : List Call) (who : Sid) (writes : Bool) (book : Book) → calls ≡ Began writes who ∷ earlier → book ≡ first_book who writes
+pub begun_since : (calls earlier : List Exchange) (who : Sid) (writes : Bool) (book : Book) → calls ≡ Began writes who ∷ earlier → book ≡ first_book who writes
     → IsFreshBook calls book
 begun_since calls earlier who writes book e fresh = λ first is.
     let same : (who, writes) ≡ first = same_Some (who, writes) first (sym (ap latest_in e) ∙ is) in
     fresh ∙ ap (λ (one : Sid × Bool). first_book one.0 one.1) same
 
 -- a request with its reply, in a record that is said to have it in front
-pub record_as_asked : (terms : ℕ → Terms) (before : ℕ → List Step) (shards worker : ℕ) (calls now : List Call) (old new : Seen) (who : Sid) (request : Wanted) (told : Reply)
-    → now ≡ Asked who request told ∷ calls → IsBeginning old new
-    → ForSome (latest_in calls) (λ first. first.0 ≡ who → IsFirst first.1 request → ShowsFirst terms before shards who told new)
+pub record_as_asked : (terms : ℕ → Terms) (before : ℕ → List Step) (shards worker : ℕ) (calls now : List Exchange) (old new : Seen) (who : Sid) (request : Wanted) (reply : Reply)
+    → now ≡ Asked who request reply ∷ calls → IsBeginning old new
+    → ForSome (latest_in calls) (λ first. first.0 ≡ who → IsFirst first.1 request → ShowsFirst terms before shards who reply new)
     → IsRecordSeen terms before shards worker calls old → IsRecordSeen terms before shards worker now new
-record_as_asked terms before shards worker calls now old new who request told is goes shows h =
+record_as_asked terms before shards worker calls now old new who request reply is goes shows h =
     subst (λ l. IsRecordSeen terms before shards worker l new) (sym is)
-    (record_with_reply terms before shards worker calls old new who request told goes shows h)
+    (record_with_reply terms before shards worker calls old new who request reply goes shows h)
 
 -- the first request of a session that has just begun leaves what it shows, where it was made as it is asked for
-pub shows_where_fresh : (terms : ℕ → Terms) (before : ℕ → List Step) (shards : ℕ) (calls : List Call) (book : Book) (new : Seen) (who : Sid) (request : Wanted) (told : Reply)
-    → IsFreshBook calls book → ((writes : Bool) → book ≡ first_book who writes → IsFirst writes request → ShowsFirst terms before shards who told new)
-    → ForSome (latest_in calls) (λ first. first.0 ≡ who → IsFirst first.1 request → ShowsFirst terms before shards who told new)
-shows_where_fresh terms before shards calls book new who request told fresh shows = λ first is same asked.
+pub shows_where_fresh : (terms : ℕ → Terms) (before : ℕ → List Step) (shards : ℕ) (calls : List Exchange) (book : Book) (new : Seen) (who : Sid) (request : Wanted) (reply : Reply)
+    → IsFreshBook calls book → ((writes : Bool) → book ≡ first_book who writes → IsFirst writes request → ShowsFirst terms before shards who reply new)
+    → ForSome (latest_in calls) (λ first. first.0 ≡ who → IsFirst first.1 request → ShowsFirst terms before shards who reply new)
+shows_where_fresh terms before shards calls book new who request reply fresh shows = λ first is same asked.
     shows first.1 (fresh first is ∙ ap (λ (s : Sid). first_book s first.1) same) asked
 
 -- what is made as it is asked for is that request, and nothing else
@@ -319,9 +319,9 @@ pub not_dropped : (session : Sid) (grant : Permit) (other : Wanted) (made_of : M
     → made_of ≡ made.EndDrop session grant → result ≡ Ok (made.One other) → ⊥
 not_dropped session grant other made_of result e f h = cc
 
-pub not_told : (told : Reply) (other : Wanted) (made_of : Made) (result : Result Made Wanted) → result ≡ Ok made_of → made_of ≡ made.Told told
+pub not_told : (reply : Reply) (other : Wanted) (made_of : Made) (result : Result Made Wanted) → result ≡ Ok made_of → made_of ≡ made.Answered reply
     → result ≡ Ok (made.One other) → ⊥
-not_told told other made_of result e f h = cc
+not_told reply other made_of result e f h = cc
 
 pub not_back : (back other : Wanted) (result : Result Made Wanted) → result ≡ Err back → result ≡ Ok (made.One other) → ⊥
 not_back back other result e h = cc

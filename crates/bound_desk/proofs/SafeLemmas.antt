@@ -6,7 +6,7 @@ use Rattle.rows_model.specs.declared.keys.Sid.{Sid}
 use Rattle.key_shard.specs.Permit.{Permit}
 use Rattle.session_client.specs.Belongs.{Belongs}
 use Rattle.session_client.specs.declared.replies.Reply.{Reply}
-use Rattle.session_client.specs.declared.replies.Reply.TheVariants as reply
+use Rattle.session_client.specs.declared.replies.Reply.TheVariants as Reply
 use Rattle.session_client.specs.declared.replies.Wanted.{Wanted}
 use Rattle.session_client.specs.declared.replies.Wanted.TheVariants as wanted
 use Rattle.key_freshness.proofs.MarkLemmas.{by_test}
@@ -97,17 +97,17 @@ made_is_safe book who request found h =
     (λ safe. subst (λ f. IsSafelyMade book who (made_in f who request)) (sym safe) (safe_is_safe book who request))
     (which book who request found h)
 
-set_belongs : (who : Sid) (key : _) (token other : ℕ) (value : _) (stamp : ℕ) (told : Reply) → Belongs who (wanted.Set key token value stamp) told → Belongs who (wanted.Set key other value stamp) told
-set_belongs who key token other value stamp (reply.Set told) h = tt
-set_belongs who key token other value stamp (reply.Fault fault) h = h
+set_belongs : (who : Sid) (key : _) (token other : ℕ) (value : _) (stamp : ℕ) (reply : Reply) → Belongs who (wanted.Set key token value stamp) reply → Belongs who (wanted.Set key other value stamp) reply
+set_belongs who key token other value stamp (Reply.Set answer) h = tt
+set_belongs who key token other value stamp (Reply.Fault fault) h = h
 set_belongs who key token other value stamp rest h = absurd h
 
-put_belongs : (who : Sid) (grant : Permit) (value : _) (stamp : ℕ) (told : Reply) → Belongs who (wanted.Sar grant None stamp) told → Belongs who (wanted.Sar grant (Some value) stamp) told
-put_belongs who grant value stamp (reply.Rel told) h = tt
+put_belongs : (who : Sid) (grant : Permit) (value : _) (stamp : ℕ) (reply : Reply) → Belongs who (wanted.Sar grant None stamp) reply → Belongs who (wanted.Sar grant (Some value) stamp) reply
+put_belongs who grant value stamp (Reply.Rel answer) h = tt
 put_belongs who grant value stamp rest h = absurd h
 
-shift_belongs : (who : Sid) (grant : Permit) (stamp : ℕ) (told : Reply) → Belongs who (wanted.Dar grant) told → Belongs who (wanted.Apply grant stamp) told
-shift_belongs who grant stamp (reply.Rel told) h = tt
+shift_belongs : (who : Sid) (grant : Permit) (stamp : ℕ) (reply : Reply) → Belongs who (wanted.Dar grant) reply → Belongs who (wanted.Apply grant stamp) reply
+shift_belongs who grant stamp (Reply.Rel answer) h = tt
 shift_belongs who grant stamp rest h = absurd h
 
 -- a reply to the safe form of a request belongs to the request
@@ -115,33 +115,33 @@ safe_belongs : (book : Book) (who : Sid) (request : Wanted) → MadeBelongs who 
 safe_belongs book who (wanted.Set key token value stamp) = set_belongs who key 0 token value stamp
 safe_belongs book who (wanted.Sar grant (Some value) stamp) =
     by_test (λ b. MadeBelongs who (wanted.Sar grant (Some value) stamp) (made_in (cond b form.NoValue (form.EndDrop grant.sid)) who (wanted.Sar grant (Some value) stamp)))
-    (is_present book grant.sid && is_some book.commit) (λ _. put_belongs who grant value stamp) (λ _ told. tt)
-safe_belongs book who (wanted.Sar grant None stamp) = λ told. tt
+    (is_present book grant.sid && is_some book.commit) (λ _. put_belongs who grant value stamp) (λ _ reply. tt)
+safe_belongs book who (wanted.Sar grant None stamp) = λ reply. tt
 safe_belongs book who (wanted.Apply grant stamp) =
     by_test (λ b. MadeBelongs who (wanted.Apply grant stamp) (made_in (cond b form.DropOnly (form.EndDrop grant.sid)) who (wanted.Apply grant stamp)))
-    (is_present book grant.sid && is_some book.commit) (λ _. shift_belongs who grant stamp) (λ _ told. tt)
-safe_belongs book who (wanted.Dar grant) = λ told. tt
+    (is_present book grant.sid && is_some book.commit) (λ _. shift_belongs who grant stamp) (λ _ reply. tt)
+safe_belongs book who (wanted.Dar grant) = λ reply. tt
 safe_belongs book who (wanted.Raise grant) =
     by_test (λ b. MadeBelongs who (wanted.Raise grant) (made_in (cond b form.Shared (form.EndDrop grant.sid)) who (wanted.Raise grant)))
-    (is_present book grant.sid) (λ _. refl) (λ _ told. tt)
+    (is_present book grant.sid) (λ _. refl) (λ _ reply. tt)
 safe_belongs book who (wanted.QaReg key) = tt
 safe_belongs book who (wanted.QaRead key) = tt
 safe_belongs book who (wanted.Delta key by) = tt
 safe_belongs book who (wanted.Commit txn grants) =
     by_test (λ b. MadeBelongs who (wanted.Commit txn grants) (made_in (cond b form.HeldAlone form.NotCommitted) who (wanted.Commit txn grants)))
-    (is_present book who) (λ _ told h. h) (λ _. (refl, record { same = refl; roomy = omega arith }))
-safe_belongs book who (wanted.Abort grant) = λ told. tt
-safe_belongs book who (wanted.Get key floor) = λ told h. h
-safe_belongs book who (wanted.Ask key) = λ told h. h
-safe_belongs book who (wanted.Staged key txn) = λ told h. h
-safe_belongs book who (wanted.Renew grant) = λ told h. h
-safe_belongs book who wanted.End = λ told h. h
-safe_belongs book who wanted.Nothing = λ told h. h
+    (is_present book who) (λ _ reply h. h) (λ _. (refl, record { same = refl; roomy = omega arith }))
+safe_belongs book who (wanted.Abort grant) = λ reply. tt
+safe_belongs book who (wanted.Get key floor) = λ reply h. h
+safe_belongs book who (wanted.Ask key) = λ reply h. h
+safe_belongs book who (wanted.Staged key txn) = λ reply h. h
+safe_belongs book who (wanted.Renew grant) = λ reply h. h
+safe_belongs book who wanted.End = λ reply h. h
+safe_belongs book who wanted.Nothing = λ reply h. h
 
 pub made_belongs : (book : Book) (who : Sid) (request : Wanted) (found : Form) → IsForm book who request found → MadeBelongs who request (made_in found who request)
 made_belongs book who request found h =
     ⊎_elim
-    (λ asked. subst (λ f. MadeBelongs who request (made_in f who request)) (sym asked.0) (λ told b. b))
+    (λ asked. subst (λ f. MadeBelongs who request (made_in f who request)) (sym asked.0) (λ reply b. b))
     (λ safe. subst (λ f. MadeBelongs who request (made_in f who request)) (sym safe) (safe_belongs book who request))
     (which book who request found h)
 

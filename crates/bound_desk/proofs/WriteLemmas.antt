@@ -70,7 +70,7 @@ module _ (opening : Tables) (before : ℕ → List Step) (shards : ℕ) (seen : 
   }
 
   true_log : seen.stopped ≡ false → IsTrueLog opening (take stamp (commits_of seen.events))
-  true_log told = subst (λ n. IsTrueLog opening (take n (commits_of seen.events))) numbered (placed.applied told)
+  true_log telling = subst (λ n. IsTrueLog opening (take n (commits_of seen.events))) numbered (placed.applied telling)
 
   put_with : (value : List ℕ) (old : Option (List ℕ × ℕ)) → new_value one.permit.key done.txn old ≡ Some value
       → IsOldHeld opening (before (shard_of one.permit.key shards)) (shard_of one.permit.key shards) alone.earlier one.permit.key old
@@ -80,7 +80,7 @@ module _ (opening : Tables) (before : ℕ → List Step) (shards : ℕ) (seen : 
     old = old.0;
     old_stamp = old.1;
     held = held;
-    lawful = λ told. lawful_to_refresh opening (take stamp (commits_of seen.events)) (true_log told) one.permit.key;
+    lawful = λ telling. lawful_to_refresh opening (take stamp (commits_of seen.events)) (true_log telling) one.permit.key;
     made = subst (λ (txn : List Change). refreshed_by one.permit.key txn old.0 ≡ Some value) (sym placed.txn_is) made;
   }
   put_with value None made held = absurd (none-some value made)
@@ -91,7 +91,7 @@ module _ (opening : Tables) (before : ℕ → List Step) (shards : ℕ) (seen : 
     alone = was_alone;
     granted = (alone.stood.shifts delta).0;
     by_so_much = (alone.stood.shifts delta).1 ∙ by_is ∙ ap (λ (txn : List Change). delta_of one.permit.key txn) (sym placed.txn_is);
-    lawful = λ told. lawful_to_shift opening (take stamp (commits_of seen.events)) (true_log told) one.permit.key counts;
+    lawful = λ telling. lawful_to_shift opening (take stamp (commits_of seen.events)) (true_log telling) one.permit.key counts;
   }
 
 -- a new value that the book bears out may be put

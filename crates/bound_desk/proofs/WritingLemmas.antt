@@ -32,7 +32,7 @@ use Rattle.bound_hub.specs.Knowns.{commits_of}
 use Rattle.bound_hub.specs.Olds.{IsGrantHeld, IsOldHeld}
 use Rattle.bound_hub.specs.Shorts.{granted_short, is_alone, raised_short}
 use Rattle.bound_hub.specs.Stores.{ShowsCommit}
-use Rattle.bound_hub.specs.Told.{quarantine_short}
+use Rattle.bound_hub.specs.StepShorts.{quarantine_short}
 use Rattle.bound_hub.specs.TrueLogs.{IsTrueLog, IsTrueSoFar}
 use Rattle.bound_hub.proofs.FactLemmas.{was_not}
 use Rattle.bound_hub.proofs.RuledLemmas.{more_is_known}
@@ -86,11 +86,11 @@ module _ (opening : Tables) (before : ℕ → List Step) (shards : ℕ) where
         its_own = h.its_own;
         txn_is = h.txn_is;
         number_is = h.number_is;
-        applied = λ told.
+        applied = λ telling.
             let lt = slice_get_within (commits_of old.events) h.place h.own h.at in
             let number = h.number_is in
             subst (IsTrueLog opening) (sym (more-take known done.number (omega (arith, lt, number))))
-            (h.applied (was_not old.stopped new.stopped begins.stopped told));
+            (h.applied (was_not old.stopped new.stopped begins.stopped telling));
       }
 
   -- where more is seen
@@ -199,9 +199,9 @@ module _ (opening : Tables) (before : ℕ → List Step) (shards : ℕ) where
               its_own = sym (eqb-true present.sid.number who.number (sym (ap (λ o. is_of o who) here) ∙ is));
               txn_is = refl;
               number_is = shows.number_is;
-              applied = λ told.
+              applied = λ telling.
                   let many : length (commits_of new.events) ≡ number = ap (λ (l : List Commit). length l) events ∙ one_more log own ∙ sym shows.number_is in
-                  subst (IsTrueLog opening) (sym (ap (λ n. take n (commits_of new.events)) (sym many) ∙ take-whole (commits_of new.events))) (true_so_far told);
+                  subst (IsTrueLog opening) (sym (ap (λ n. take n (commits_of new.events)) (sym many) ∙ take-whole (commits_of new.events))) (true_so_far telling);
             });
       }
 
@@ -235,13 +235,13 @@ module _ (opening : Tables) (before : ℕ → List Step) (shards : ℕ) where
   -- and so it is with an answer, if there is one
   pub answer_stood : {E : Type 0} (terms : Terms) (past : List Step) (key : QKey) (who : Sid) (quarantine : Mode) (shift : ℤ) (now place : ℕ) (seen : Seen) (has : Bool) (result : Result QAnswer E)
       → place ≡ shard_of key shards → IfOk result (ShowsQuarantine terms past (quarantine_step terms past key who quarantine shift now))
-      → IfOk result (λ told. IsLastStep place (quarantine_short key who quarantine shift told has) seen)
-      → IfOk result (λ told. IsGrantHeld opening (before place) place seen key told)
+      → IfOk result (λ answer. IsLastStep place (quarantine_short key who quarantine shift answer has) seen)
+      → IfOk result (λ answer. IsGrantHeld opening (before place) place seen key answer)
       → IfOk result (IsGrantAlone opening before shards shift seen)
-  answer_stood terms past key who quarantine shift now place seen has (Ok told) at shows last held =
-      quarantine_stood terms past key who quarantine shift now seen told has shows
-      (subst (λ n. IsLastStep n (quarantine_short key who quarantine shift told has) seen) at last)
-      (subst (λ n. IsGrantHeld opening (before n) n seen key told) at held)
+  answer_stood terms past key who quarantine shift now place seen has (Ok answer) at shows last held =
+      quarantine_stood terms past key who quarantine shift now seen answer has shows
+      (subst (λ n. IsLastStep n (quarantine_short key who quarantine shift answer has) seen) at last)
+      (subst (λ n. IsGrantHeld opening (before n) n seen key answer) at held)
   answer_stood terms past key who quarantine shift now place seen has (Err fault) at shows last held = tt
 
   -- a raised grant stands alone by the step that raised it

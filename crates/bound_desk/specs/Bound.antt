@@ -8,7 +8,7 @@ use Rattle.rows_model.specs.Rows.{Tables}
 use Rattle.key_shard.specs.declared.replies.Got.{Got}
 use Rattle.key_shard.specs.declared.replies.Got.TheVariants as got
 use Rattle.sql_keeper.specs.declared.stores.Answer.{Answer}
-use Rattle.session_client.specs.Desks.{Call}
+use Rattle.session_client.specs.Desks.{Exchange}
 use Rattle.log_word.specs.declared.events.Short.{Short}
 use Rattle.log_word.specs.declared.seen.Seen.{Seen}
 use Rattle.log_word.specs.Events.{may_write, is_over}
@@ -38,7 +38,7 @@ pub record BoundDeskView : Type 0 where
   pub book : BookView
   pub seen : Seen
   pub worker : ℕ
-  pub calls : List Call
+  pub calls : List Exchange
 
 -- The answer was given since a pass had seen the earlier: its stamp is at least the number of commits that had been
 -- seen then, and at most that of those that are seen now. It is right for the key, unless it is seen that the store has

@@ -5,7 +5,7 @@ use Rattle.key_shard.specs.declared.replies.Raising.TheVariants as raising
 use Rattle.key_shard.specs.declared.replies.Rel.{Rel}
 use Rattle.session_client.specs.Belongs.{Belongs}
 use Rattle.session_client.specs.declared.replies.Reply.{Reply}
-use Rattle.session_client.specs.declared.replies.Reply.TheVariants as reply
+use Rattle.session_client.specs.declared.replies.Reply.TheVariants as Reply
 use Rattle.session_client.specs.declared.replies.Wanted.{Wanted}
 use Rattle.session_client.specs.declared.replies.Wanted.TheVariants as wanted
 use Rattle.desk_book.specs.Books.{Book}
@@ -35,7 +35,7 @@ IsSafe book who other = Unit {0}
 abbrev pub IsSafelyMade : Book → Sid → Made → Type 0
 IsSafelyMade book who (made.One request) = IsSafe book who request
 IsSafelyMade book who (made.EndDrop session grant) = session ≡ grant.sid
-IsSafelyMade book who (made.Told told) = Unit {0}
+IsSafelyMade book who (made.Answered reply) = Unit {0}
 
 -- Whether the request is to raise a quarantine.
 abbrev pub is_raise : Wanted → Bool
@@ -44,11 +44,11 @@ is_raise other = false
 
 -- The reply to a request in whose place a grant was dropped.
 abbrev pub drop_reply : Bool → Rel → Reply
-drop_reply true told = reply.Raise raising.Gone
-drop_reply false told = reply.Rel told
+drop_reply true answer = Reply.Raise raising.Gone
+drop_reply false answer = Reply.Rel answer
 
 -- A reply to what is made in place of a request belongs to that request.
 abbrev pub MadeBelongs : Sid → Wanted → Made → Type 0
-MadeBelongs who request (made.One one) = (told : Reply) → Belongs who one told → Belongs who request told
-MadeBelongs who request (made.EndDrop session grant) = (told : Rel) → Belongs who request (drop_reply (is_raise request) told)
-MadeBelongs who request (made.Told told) = Belongs who request told
+MadeBelongs who request (made.One one) = (reply : Reply) → Belongs who one reply → Belongs who request reply
+MadeBelongs who request (made.EndDrop session grant) = (answer : Rel) → Belongs who request (drop_reply (is_raise request) answer)
+MadeBelongs who request (made.Answered reply) = Belongs who request reply

@@ -14,14 +14,14 @@ use Rattle.key_shard.specs.declared.replies.Rel.TheVariants as rel
 use Rattle.key_shard.specs.declared.steps.Step.{Step}
 use Rattle.key_shard.specs.Permit.{Permit}
 use Rattle.session_client.specs.declared.replies.Reply.{Reply}
-use Rattle.session_client.specs.declared.replies.Reply.TheVariants as reply
+use Rattle.session_client.specs.declared.replies.Reply.TheVariants as Reply
 use Rattle.session_client.specs.declared.replies.Wanted.{Wanted}
 use Rattle.session_client.specs.declared.replies.Wanted.TheVariants as wanted
 use Rattle.log_word.specs.declared.events.Short.{Short}
 use Rattle.log_word.specs.declared.seen.Seen.{Seen}
 use Rattle.bound_hub.specs.Gets.{got_short, IsGotFresh, IsLastStep}
 use Rattle.bound_hub.specs.Olds.{IsGrantHeld, IsRaiseHeld}
-use Rattle.bound_hub.specs.Told.{quarantine_short, raise_short, release_short, replace_short, set_short}
+use Rattle.bound_hub.specs.StepShorts.{quarantine_short, raise_short, release_short, replace_short, set_short}
 
 -- The step of this short form, after which the key has an entry or has none, is the last of the key's shard that is seen.
 abbrev pub IsLastOf : ℕ → QKey → (Bool → Short) → Seen → Type 0
@@ -29,53 +29,53 @@ IsLastOf shards key step seen = (has : Bool) × IsLastStep (shard_of key shards)
 
 -- So is the step of a release that drops the key's value, unless it is Gone.
 abbrev pub ShowsDrop : ℕ → Permit → Rel → Seen → Type 0
-ShowsDrop shards grant told seen =
-    told ≢ rel.Gone → IsLastOf shards grant.key (release_short grant.key grant.sid grant.token hows.Drop told) seen
+ShowsDrop shards grant answer seen =
+    answer ≢ rel.Gone → IsLastOf shards grant.key (release_short grant.key grant.sid grant.token hows.Drop answer) seen
 
 -- So is the step of a release with a new value, of a grant that is to refresh, unless it is Gone.
 abbrev pub ShowsPut : ℕ → Permit → ℕ → Rel → Seen → Type 0
-ShowsPut shards grant stamp told seen =
-    grant.mode ≡ Refresh → told ≢ rel.Gone
-    → IsLastOf shards grant.key (replace_short grant.key grant.sid grant.token stamp told) seen
+ShowsPut shards grant stamp answer seen =
+    grant.mode ≡ Refresh → answer ≢ rel.Gone
+    → IsLastOf shards grant.key (replace_short grant.key grant.sid grant.token stamp answer) seen
 
 -- So is the step of a release that shifts the key's count, of a grant that is to shift, unless it is Gone.
 abbrev pub ShowsShift : ℕ → Permit → ℕ → Rel → Seen → Type 0
-ShowsShift shards grant stamp told seen =
-    grant.mode ≡ Delta → is_count grant.key ≡ true → told ≢ rel.Gone
-    → IsLastOf shards grant.key (release_short grant.key grant.sid grant.token (hows.Shift stamp) told) seen
+ShowsShift shards grant stamp answer seen =
+    grant.mode ≡ Delta → is_count grant.key ≡ true → answer ≢ rel.Gone
+    → IsLastOf shards grant.key (release_short grant.key grant.sid grant.token (hows.Shift stamp) answer) seen
 
 -- So is the step of a release that keeps the key's value, unless it is Gone.
 abbrev pub ShowsKeep : ℕ → Permit → Rel → Seen → Type 0
-ShowsKeep shards grant told seen =
-    told ≢ rel.Gone → IsLastOf shards grant.key (release_short grant.key grant.sid grant.token hows.Keep told) seen
+ShowsKeep shards grant answer seen =
+    answer ≢ rel.Gone → IsLastOf shards grant.key (release_short grant.key grant.sid grant.token hows.Keep answer) seen
 
 -- So is the step of a raise, of a grant that is to invalidate, unless it is Gone. An old value is held and right, unless it
 -- is seen that the store has stopped telling its rows.
 abbrev pub ShowsRaising : Tables → (ℕ → List Step) → ℕ → Permit → Raising → Seen → Type 0
-ShowsRaising opening before shards grant told seen =
+ShowsRaising opening before shards grant answer seen =
     grant.mode ≡ Invalidate
-    → (told ≢ raising.Gone → IsLastOf shards grant.key (raise_short grant.key grant.sid grant.token told) seen)
-    × IsRaiseHeld opening (before (shard_of grant.key shards)) (shard_of grant.key shards) seen grant.key told
+    → (answer ≢ raising.Gone → IsLastOf shards grant.key (raise_short grant.key grant.sid grant.token answer) seen)
+    × IsRaiseHeld opening (before (shard_of grant.key shards)) (shard_of grant.key shards) seen grant.key answer
 
 -- What a reply tells: the request's own step is the last that is seen of its shard, a hit is fresh, and an old value is held
 -- and right, both unless it is seen that the store has stopped telling its rows.
 abbrev pub ShowsReply : Tables → (ℕ → List Step) → ℕ → Sid → Wanted → Reply → Seen → Type 0
-ShowsReply opening before shards who (wanted.Get key floor) (reply.Got got) seen =
+ShowsReply opening before shards who (wanted.Get key floor) (Reply.Got got) seen =
     IsLastOf shards key (got_short key who got) seen
     × IsGotFresh opening (before (shard_of key shards)) (shard_of key shards) seen key got
-ShowsReply opening before shards who (wanted.Set key token value stamp) (reply.Set told) seen =
-    IsLastOf shards key (set_short key token stamp told) seen
-ShowsReply opening before shards who (wanted.QaReg key) (reply.Quar told) seen =
-    IsLastOf shards key (quarantine_short key who Invalidate (pos 0) told) seen
-ShowsReply opening before shards who (wanted.QaRead key) (reply.Quar told) seen =
-    IsLastOf shards key (quarantine_short key who Refresh (pos 0) told) seen
-    × IsGrantHeld opening (before (shard_of key shards)) (shard_of key shards) seen key told
-ShowsReply opening before shards who (wanted.Delta key by) (reply.Quar told) seen =
-    IsLastOf shards key (quarantine_short key who Delta by told) seen
-ShowsReply opening before shards who (wanted.Dar grant) (reply.Rel told) seen = ShowsDrop shards grant told seen
-ShowsReply opening before shards who (wanted.Sar grant (Some value) stamp) (reply.Rel told) seen = ShowsPut shards grant stamp told seen
-ShowsReply opening before shards who (wanted.Sar grant None stamp) (reply.Rel told) seen = ShowsDrop shards grant told seen
-ShowsReply opening before shards who (wanted.Apply grant stamp) (reply.Rel told) seen = ShowsShift shards grant stamp told seen
-ShowsReply opening before shards who (wanted.Abort grant) (reply.Rel told) seen = ShowsKeep shards grant told seen
-ShowsReply opening before shards who (wanted.Raise grant) (reply.Raise told) seen = ShowsRaising opening before shards grant told seen
-ShowsReply opening before shards who other told seen = Unit {0}
+ShowsReply opening before shards who (wanted.Set key token value stamp) (Reply.Set answer) seen =
+    IsLastOf shards key (set_short key token stamp answer) seen
+ShowsReply opening before shards who (wanted.QaReg key) (Reply.Quar answer) seen =
+    IsLastOf shards key (quarantine_short key who Invalidate (pos 0) answer) seen
+ShowsReply opening before shards who (wanted.QaRead key) (Reply.Quar answer) seen =
+    IsLastOf shards key (quarantine_short key who Refresh (pos 0) answer) seen
+    × IsGrantHeld opening (before (shard_of key shards)) (shard_of key shards) seen key answer
+ShowsReply opening before shards who (wanted.Delta key by) (Reply.Quar answer) seen =
+    IsLastOf shards key (quarantine_short key who Delta by answer) seen
+ShowsReply opening before shards who (wanted.Dar grant) (Reply.Rel answer) seen = ShowsDrop shards grant answer seen
+ShowsReply opening before shards who (wanted.Sar grant (Some value) stamp) (Reply.Rel answer) seen = ShowsPut shards grant stamp answer seen
+ShowsReply opening before shards who (wanted.Sar grant None stamp) (Reply.Rel answer) seen = ShowsDrop shards grant answer seen
+ShowsReply opening before shards who (wanted.Apply grant stamp) (Reply.Rel answer) seen = ShowsShift shards grant stamp answer seen
+ShowsReply opening before shards who (wanted.Abort grant) (Reply.Rel answer) seen = ShowsKeep shards grant answer seen
+ShowsReply opening before shards who (wanted.Raise grant) (Reply.Raise answer) seen = ShowsRaising opening before shards grant answer seen
+ShowsReply opening before shards who other reply seen = Unit {0}

@@ -81,9 +81,9 @@ impl<H: BoundName> BoundBook<H> {
                 };
             }
         };
-        let (told, txn) = self.commit(word, store, who, txn, held.items());
+        let (answer, txn) = self.commit(word, store, who, txn, held.items());
         let grants = apart.join(held);
-        match told {
+        match answer {
             Ok(number) => Reply::Committed {
                 number,
                 txn,

@@ -59,10 +59,10 @@ impl<H: BoundName> BoundBook<H> {
         let Ok(copy) = txn.copy() else {
             return (Err(CommitFault::Memory), txn);
         };
-        let (told, txn) = store.commit(word, &mut self.pass, who, txn, grants);
-        if let Ok(number) = told {
+        let (answer, txn) = store.commit(word, &mut self.pass, who, txn, grants);
+        if let Ok(number) = answer {
             self.book.note_commit(who, number, copy);
         }
-        (told, txn)
+        (answer, txn)
     }
 }

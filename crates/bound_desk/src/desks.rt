@@ -50,7 +50,7 @@ pub struct BoundDesk<'a, K: Keeper, H: BoundName, C: Clock, G: Gate, R: Wait> {
     worker: u32,
     clock: &'a C,
     gate: &'a G,
-    told: BoundBook<H>,
+    notes: BoundBook<H>,
     calls: Record,
     sweeper: Sweeper,
     sweep: BoundSweep<H>,
@@ -66,15 +66,15 @@ impl<'a, K: Keeper, H: BoundName, C: Clock, G: Gate, R: Wait> Model
     ghost Value = { BoundDeskView };
 
     ghost view = { λ desk. record {
-      book = desk.told.book;
-      seen = desk.told.seen;
+      book = desk.notes.book;
+      seen = desk.notes.seen;
       worker = desk.worker;
       calls = desk.calls;
     } };
 
     ghost invariant = { λ desk. (shards_of desk.sweeper ≡ desk.hub.now)
-        × IsRecordSeen H.terms H.before H.word.shards desk.worker desk.calls desk.told.seen
-        × IsFreshBook desk.calls desk.told.book.book };
+        × IsRecordSeen H.terms H.before H.word.shards desk.worker desk.calls desk.notes.seen
+        × IsFreshBook desk.calls desk.notes.book.book };
 }
 
 impl<'a, K: Keeper, H: BoundName, C: Clock, G: Gate, R: Wait> BoundDesk<'a, K, H, C, G, R> {
@@ -104,7 +104,7 @@ impl<'a, K: Keeper, H: BoundName, C: Clock, G: Gate, R: Wait> BoundDesk<'a, K, H
             worker,
             clock,
             gate,
-            told: BoundBook::new(alloc, pass),
+            notes: BoundBook::new(alloc, pass),
             calls: Record::new(),
             sweeper: Sweeper::new(hub.shards()),
             sweep: BoundSweep::new(other),
@@ -131,7 +131,7 @@ impl<'a, K: Keeper, H: BoundName, C: Clock, G: Gate, R: Wait> BoundDesk<'a, K, H
             .at(self.worker, Point::Inside { shard: shard.no() });
         let now = self.clock.now();
         let reply = self
-            .told
+            .notes
             .reply_to_get(word, &mut *shard, who, key, floor, now);
         self.calls = self.calls.asked(&asked, &reply);
         reply
@@ -153,12 +153,12 @@ impl<'a, K: Keeper, H: BoundName, C: Clock, G: Gate, R: Wait> BoundDesk<'a, K, H
             worker: _,
             clock: _,
             gate: _,
-            told,
+            notes,
             calls: _,
             sweeper: _,
             sweep: _,
         } = self;
-        told.into_pass()
+        notes.into_pass()
     }
 }
 
@@ -176,7 +176,7 @@ impl<'a, K: Keeper, H: BoundName, C: Clock, G: Gate, R: Wait> Desk
         let word = self.hub.word();
         let mut store = self.hub.lock_store(self.rt);
         self.gate.at(self.worker, Point::AtStore);
-        let sid = self.told.begin(word, &mut *store, self.worker, writes)?;
+        let sid = self.notes.begin(word, &mut *store, self.worker, writes)?;
         self.calls = self.calls.began(sid, writes);
         Ok(sid)
     }
@@ -193,12 +193,12 @@ impl<'a, K: Keeper, H: BoundName, C: Clock, G: Gate, R: Wait> Desk
             let mut shard = self.hub.lock_of(self.rt, &key);
             let place = shard.no();
             self.gate.at(self.worker, Point::Inside { shard: place });
-            let reply = match self.told.reply_to_hit(word, &mut *shard, who, key, floor) {
+            let reply = match self.notes.reply_to_hit(word, &mut *shard, who, key, floor) {
                 Some(reply) => reply,
                 None => {
                     let now = self.clock.now();
                     let reply = self
-                        .told
+                        .notes
                         .reply_to_get(word, &mut *shard, who, key, floor, now);
                     turn_to_due(&mut self.sweeper, place, &reply, shard.next_due(), now);
                     reply
@@ -208,7 +208,7 @@ impl<'a, K: Keeper, H: BoundName, C: Clock, G: Gate, R: Wait> Desk
             return reply;
         }
         let raises = is_raise(&request);
-        let reply = match self.told.made(who, request) {
+        let reply = match self.notes.made(who, request) {
             Ok(Made::One { request }) => match key_of(&request) {
                 Some(key) => {
                     let mut shard = self.hub.lock_of(self.rt, &key);
@@ -219,7 +219,7 @@ impl<'a, K: Keeper, H: BoundName, C: Clock, G: Gate, R: Wait> Desk
                     } else {
                         0
                     };
-                    let reply = self.told.on_shard(word, &mut *shard, who, request, now);
+                    let reply = self.notes.on_shard(word, &mut *shard, who, request, now);
                     self.hub.note_due(place, shard.next_due());
                     reply
                 }
@@ -230,7 +230,7 @@ impl<'a, K: Keeper, H: BoundName, C: Clock, G: Gate, R: Wait> Desk
                 None => {
                     let mut store = self.hub.lock_store(self.rt);
                     self.gate.at(self.worker, Point::AtStore);
-                    self.told
+                    self.notes
                         .at_store(word, self.alloc, &mut *store, who, request)
                 }
             },
@@ -238,21 +238,21 @@ impl<'a, K: Keeper, H: BoundName, C: Clock, G: Gate, R: Wait> Desk
                 let is_over = {
                     let mut store = self.hub.lock_store(self.rt);
                     self.gate.at(self.worker, Point::AtStore);
-                    self.told.close(word, &mut *store, session)
+                    self.notes.close(word, &mut *store, session)
                 };
                 if is_over {
                     let mut shard = self.hub.lock_of(self.rt, &grant.key());
                     let place = shard.no();
                     self.gate.at(self.worker, Point::Inside { shard: place });
-                    let told = self.told.drop_value(word, &mut *shard, who, grant);
+                    let answer = self.notes.drop_value(word, &mut *shard, who, grant);
                     self.hub.note_due(place, shard.next_due());
-                    dropped(raises, told)
+                    dropped(raises, answer)
                 } else {
                     grant.let_go();
                     dropped(raises, Rel::Gone)
                 }
             }
-            Ok(Made::Told { reply }) => reply,
+            Ok(Made::Answered { reply }) => reply,
             Err(request) => back(request),
         };
         self.calls = self.calls.asked(&asked, &reply);
@@ -263,7 +263,7 @@ impl<'a, K: Keeper, H: BoundName, C: Clock, G: Gate, R: Wait> Desk
     /// is passed without its lock.
     fn tend(&mut self) {
         let word = self.hub.word();
-        let told = match self.sweeper.wants() {
+        let reply = match self.sweeper.wants() {
             SweepWanted::Scan { shard } => {
                 let due = self.hub.next_due(shard);
                 if due == u64::MAX || self.clock.now() < due {
@@ -291,11 +291,11 @@ impl<'a, K: Keeper, H: BoundName, C: Clock, G: Gate, R: Wait> Desk
                 let shard = bound.no();
                 self.gate.at(self.worker, Point::Inside { shard });
                 SweepReply::Dropped {
-                    told: self.sweep.drop_value(word, &mut *bound, key, token),
+                    answer: self.sweep.drop_value(word, &mut *bound, key, token),
                 }
             }
         };
-        self.sweeper.told(told);
+        self.sweeper.hear(reply);
     }
 }
 
@@ -318,14 +318,14 @@ fn back(request: Wanted) -> Reply
 }
 
 /// The reply to a request in whose place a grant was dropped: of a raise it is Gone.
-fn dropped(raises: bool, told: Rel) -> Reply
-    ensures { result ≡ drop_reply raises told }
+fn dropped(raises: bool, answer: Rel) -> Reply
+    ensures { result ≡ drop_reply raises answer }
 {
     if raises {
         Reply::Raise {
-            told: Raising::Gone,
+            answer: Raising::Gone,
         }
     } else {
-        Reply::Rel { told }
+        Reply::Rel { answer }
     }
 }

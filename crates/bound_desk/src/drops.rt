@@ -9,7 +9,7 @@ ghost use Rattle.log_word.specs.Events.{is_over};
 ghost use Rattle.log_word.specs.Steps.{IsBeginning};
 ghost use Rattle.desk_book.specs.Books.{noted_for, without_grant};
 ghost use Rattle.bound_hub.specs.Gets.{IsLastStep};
-ghost use Rattle.bound_hub.specs.Told.{release_short};
+ghost use Rattle.bound_hub.specs.StepShorts.{release_short};
 ghost use Rattle.bound_desk.specs.Bound.{HasCommitted};
 
 use crate::bound_books::BoundBook;
@@ -50,8 +50,8 @@ impl<H: BoundName> BoundBook<H> {
             ≡ noted_for who (without_grant grant) self.old.book.book }
     {
         let ticket = Ticket::of(&grant);
-        let told = shard.release(word, &mut self.pass, grant, How::Drop);
+        let answer = shard.release(word, &mut self.pass, grant, How::Drop);
         self.book.note_spent(who, &ticket);
-        told
+        answer
     }
 }

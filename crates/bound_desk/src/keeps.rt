@@ -14,7 +14,7 @@ ghost use Rattle.desk_book.specs.Books.{noted_for, with_end, without_grant};
 ghost use Rattle.bound_hub.specs.Gets.{IsLastStep};
 ghost use Rattle.bound_hub.specs.Knowns.{commits_of, ended_of};
 ghost use Rattle.bound_hub.specs.Stores.{ShowsEnd};
-ghost use Rattle.bound_hub.specs.Told.{release_short};
+ghost use Rattle.bound_hub.specs.StepShorts.{release_short};
 ghost use Rattle.bound_desk.specs.Bound.{quit_after};
 ghost use Rattle.bound_desk.specs.Made.{IsMade};
 ghost use Rattle.bound_desk.specs.Shown.{ShowsReply};
@@ -83,9 +83,9 @@ impl<H: BoundName> BoundBook<H> {
             ≡ noted_for who (without_grant grant) self.old.book.book }
     {
         let ticket = Ticket::of(&grant);
-        let told = shard.release(word, &mut self.pass, grant, How::Keep);
+        let answer = shard.release(word, &mut self.pass, grant, How::Keep);
         self.book.note_spent(who, &ticket);
-        told
+        answer
     }
 
     /// A release that keeps the value, as `BoundBook::keep_value`, with its reply. It is Gone where the
@@ -108,10 +108,10 @@ impl<H: BoundName> BoundBook<H> {
     {
         if !self.has_quit(grant.sid()) {
             grant.let_go();
-            return Reply::Rel { told: Rel::Gone };
+            return Reply::Rel { answer: Rel::Gone };
         }
         Reply::Rel {
-            told: self.keep_value(word, shard, who, grant),
+            answer: self.keep_value(word, shard, who, grant),
         }
     }
 

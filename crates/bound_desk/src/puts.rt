@@ -10,7 +10,7 @@ ghost use Rattle.log_word.specs.Steps.{IsBeginning};
 ghost use Rattle.desk_book.specs.Books.{noted_for, without_grant};
 ghost use Rattle.desk_book.specs.Borne.{IsBorne};
 ghost use Rattle.bound_hub.specs.Gets.{IsLastStep};
-ghost use Rattle.bound_hub.specs.Told.{replace_short};
+ghost use Rattle.bound_hub.specs.StepShorts.{replace_short};
 
 use crate::bound_books::BoundBook;
 use bound_hub::{BoundName, BoundShard};
@@ -41,9 +41,9 @@ impl<H: BoundName> BoundBook<H> {
         requires mode { grant.mode ≡ Mode.Refresh }
         requires borne { IsBorne self.old.book.book who (wanted.Sar grant (Some value) stamp) }
         ensures seen { IsBeginning self.old.seen self.new.seen }
-        ensures last { IfOk result (λ told. told ≢ Rel.Gone → (has : Bool)
+        ensures last { IfOk result (λ answer. answer ≢ Rel.Gone → (has : Bool)
             × IsLastStep (shard_of grant.key H.word.shards)
-            (replace_short grant.key grant.sid grant.token stamp told has) self.new.seen) }
+            (replace_short grant.key grant.sid grant.token stamp answer has) self.new.seen) }
         ensures out { let at = shard.old.shard in IsTrue (is_out at grant) → OnOk result
             (shard.new.shard ≡ returned at grant
             (replace_step at.terms (past_of at) grant value stamp)) }
@@ -58,8 +58,8 @@ impl<H: BoundName> BoundBook<H> {
         ensures stays { OnErr result (shard.new.shard ≡ shard.old.shard) }
     {
         let ticket = Ticket::of(&grant);
-        let told = shard.replace(word, &mut self.pass, grant, value, stamp)?;
+        let answer = shard.replace(word, &mut self.pass, grant, value, stamp)?;
         self.book.note_spent(who, &ticket);
-        Ok(told)
+        Ok(answer)
     }
 }

@@ -14,7 +14,7 @@ ghost use Rattle.bound_hub.specs.Gets.{IsLastStep};
 ghost use Rattle.bound_hub.specs.Olds.{IsGrantHeld};
 ghost use Rattle.bound_hub.specs.Spent.{HasNoToken, SeesSpent};
 ghost use Rattle.bound_hub.specs.Stores.{IsGrantSeen};
-ghost use Rattle.bound_hub.specs.Told.{quarantine_short};
+ghost use Rattle.bound_hub.specs.StepShorts.{quarantine_short};
 ghost use Rattle.bound_hub.specs.Shorts.{is_alone};
 ghost use Rattle.bound_desk.specs.Grants.{IsGrantFor, with_granted};
 ghost use Rattle.bound_desk.specs.Writing.{IsGrantAlone, StoodAlone};
@@ -52,13 +52,13 @@ impl<H: BoundName> BoundBook<H> {
         requires fits { FitsShift mode by }
         requires borne { MayQuarantine self.old.book.book who }
         ensures seen { IsBeginning self.old.seen self.new.seen }
-        ensures last { IfOk result (λ told. (has : Bool)
-            × IsLastStep (shard_of key H.word.shards) (quarantine_short key who mode by told has)
+        ensures last { IfOk result (λ answer. (has : Bool)
+            × IsLastStep (shard_of key H.word.shards) (quarantine_short key who mode by answer has)
             self.new.seen) }
-        ensures old { IfOk result (λ told. let no = shard_of key H.word.shards in
-            IsGrantHeld H.opening (H.before no) no self.new.seen key told) }
-        ensures book { IfOk result (λ told.
-            self.new.book.book ≡ noted_for who (with_granted by told) self.old.book.book) }
+        ensures old { IfOk result (λ answer. let no = shard_of key H.word.shards in
+            IsGrantHeld H.opening (H.before no) no self.new.seen key answer) }
+        ensures book { IfOk result (λ answer.
+            self.new.book.book ≡ noted_for who (with_granted by answer) self.old.book.book) }
         ensures belongs { IfOk result (IsQuarantineOf who key mode) }
         ensures err { OnErr result (self.new.book.book ≡ self.old.book.book) }
         ensures spent { IfErr result (SeesSpent H.terms H.before (shard_of key H.word.shards)
@@ -68,11 +68,11 @@ impl<H: BoundName> BoundBook<H> {
         self.book.room_for_grant()?;
         let old = old_copy(shard, &key, mode)?;
         match self.make_quarantine(word, shard, who, key, mode, by, now) {
-            Ok(told) => {
-                if let QAnswer::Granted { grant, old: _ } = &told {
+            Ok(answer) => {
+                if let QAnswer::Granted { grant, old: _ } = &answer {
                     self.note_grant(who, Ticket::of(grant), old, by);
                 }
-                Ok(told)
+                Ok(answer)
             }
             Err(fault) => {
                 self.see(word, shard);
@@ -98,11 +98,11 @@ impl<H: BoundName> BoundBook<H> {
         requires fits { FitsShift mode by }
         requires borne { MayQuarantine self.old.book.book who }
         ensures seen { IsBeginning self.old.seen self.new.seen }
-        ensures last { IfOk result (λ told. (has : Bool)
-            × IsLastStep (shard_of key H.word.shards) (quarantine_short key who mode by told has)
+        ensures last { IfOk result (λ answer. (has : Bool)
+            × IsLastStep (shard_of key H.word.shards) (quarantine_short key who mode by answer has)
             self.new.seen) }
-        ensures old { IfOk result (λ told. let no = shard_of key H.word.shards in
-            IsGrantHeld H.opening (H.before no) no self.new.seen key told) }
+        ensures old { IfOk result (λ answer. let no = shard_of key H.word.shards in
+            IsGrantHeld H.opening (H.before no) no self.new.seen key answer) }
         ensures grant { IfOk result (IsGrantFor H.word.shards self.new.seen
             (old_value mode (entry key (past_of shard.old.shard)))) }
         ensures alone { IfOk result

@@ -7,7 +7,7 @@ ghost use Rattle.key_shard.specs.Past.{entry};
 ghost use Rattle.key_shard.specs.Replies.{ShowsRaise};
 ghost use Rattle.key_shard.specs.Shards.{after_raise, is_out, past_of};
 ghost use Rattle.session_client.specs.Belongs.{Belongs, IsRaiseOf};
-ghost use Rattle.session_client.specs.declared.replies.Reply.TheVariants as reply;
+ghost use Rattle.session_client.specs.declared.replies.Reply.TheVariants as Reply;
 ghost use Rattle.session_client.specs.declared.replies.Wanted.TheVariants as wanted;
 ghost use Rattle.key_shard.specs.declared.replies.Raising.TheVariants as raising;
 ghost use Rattle.log_word.specs.Steps.{IsBeginning};
@@ -15,7 +15,7 @@ ghost use Rattle.desk_book.specs.Books.{noted_for, with_raised, without_grant};
 ghost use Rattle.desk_book.specs.Borne.{IsBorne};
 ghost use Rattle.bound_hub.specs.Gets.{IsLastStep};
 ghost use Rattle.bound_hub.specs.Olds.{IsRaiseHeld};
-ghost use Rattle.bound_hub.specs.Told.{raise_short};
+ghost use Rattle.bound_hub.specs.StepShorts.{raise_short};
 ghost use Rattle.bound_desk.specs.Grants.{IsRaiseFor, with_raising};
 ghost use Rattle.bound_desk.specs.Made.{IsMade};
 ghost use Rattle.bound_desk.specs.Shown.{ShowsReply};
@@ -52,19 +52,19 @@ impl<H: BoundName> BoundBook<H> {
         requires mode { grant.mode ≡ Mode.Invalidate }
         requires borne { IsBorne self.old.book.book who (wanted.Raise grant) }
         ensures seen { IsBeginning self.old.seen self.new.seen }
-        ensures last { IfOk result (λ told. told ≢ raising.Gone → (has : Bool)
+        ensures last { IfOk result (λ answer. answer ≢ raising.Gone → (has : Bool)
             × IsLastStep (shard_of grant.key H.word.shards)
-            (raise_short grant.key grant.sid grant.token told has) self.new.seen) }
-        ensures old { IfOk result (λ told. let no = shard_of grant.key H.word.shards in
-            IsRaiseHeld H.opening (H.before no) no self.new.seen grant.key told) }
-        ensures book { IfOk result (λ told.
-            self.new.book.book ≡ noted_for who (with_raising grant told) self.old.book.book) }
+            (raise_short grant.key grant.sid grant.token answer has) self.new.seen) }
+        ensures old { IfOk result (λ answer. let no = shard_of grant.key H.word.shards in
+            IsRaiseHeld H.opening (H.before no) no self.new.seen grant.key answer) }
+        ensures book { IfOk result (λ answer.
+            self.new.book.book ≡ noted_for who (with_raising grant answer) self.old.book.book) }
         ensures out { let at = shard.old.shard in IsTrue (is_out at grant) → OnOk result
             (shard.new.shard ≡ after_raise at grant (raise_step (past_of at) grant)) }
         ensures shows { let at = shard.old.shard in IsTrue (is_out at grant) → IfOk result
             (ShowsRaise (past_of at) grant (raise_step (past_of at) grant)) }
-        ensures unknown { IsFalse (is_out shard.old.shard grant) → IfOk result (λ told.
-            (shard.new.shard ≡ shard.old.shard) × (told ≡ raising.Gone)) }
+        ensures unknown { IsFalse (is_out shard.old.shard grant) → IfOk result (λ answer.
+            (shard.new.shard ≡ shard.old.shard) × (answer ≡ raising.Gone)) }
         ensures stays { OnErr result (shard.new.shard ≡ shard.old.shard) }
         ensures belongs { IfOk result (IsRaiseOf grant) }
         ensures back { IfErr result (λ back. back ≡ grant) }
@@ -74,8 +74,8 @@ impl<H: BoundName> BoundBook<H> {
             return Err(grant);
         };
         let ticket = Ticket::of(&grant);
-        let told = self.make_raise(word, shard, grant)?;
-        match &told {
+        let answer = self.make_raise(word, shard, grant)?;
+        match &answer {
             Raising::Raised { grant, old: _ } => self.note_raised(who, Ticket::of(grant), old),
             Raising::Gone => self.note_spent(who, &ticket),
             Raising::Shared {
@@ -83,7 +83,7 @@ impl<H: BoundName> BoundBook<H> {
                 holder: _,
             } => {}
         }
-        Ok(told)
+        Ok(answer)
     }
 
     // The raise alone: the book stays.
@@ -97,11 +97,11 @@ impl<H: BoundName> BoundBook<H> {
         requires place { shard.old.shard.terms.no ≡ shard_of grant.key H.word.shards }
         requires mode { grant.mode ≡ Mode.Invalidate }
         ensures seen { IsBeginning self.old.seen self.new.seen }
-        ensures last { IfOk result (λ told. told ≢ raising.Gone → (has : Bool)
+        ensures last { IfOk result (λ answer. answer ≢ raising.Gone → (has : Bool)
             × IsLastStep (shard_of grant.key H.word.shards)
-            (raise_short grant.key grant.sid grant.token told has) self.new.seen) }
-        ensures old { IfOk result (λ told. let no = shard_of grant.key H.word.shards in
-            IsRaiseHeld H.opening (H.before no) no self.new.seen grant.key told) }
+            (raise_short grant.key grant.sid grant.token answer has) self.new.seen) }
+        ensures old { IfOk result (λ answer. let no = shard_of grant.key H.word.shards in
+            IsRaiseHeld H.opening (H.before no) no self.new.seen grant.key answer) }
         ensures brings { IfOk result
             (IsRaiseFor grant (entry grant.key (past_of shard.old.shard))) }
         ensures alone { IfOk result
@@ -110,8 +110,8 @@ impl<H: BoundName> BoundBook<H> {
             (shard.new.shard ≡ after_raise at grant (raise_step (past_of at) grant)) }
         ensures shows { let at = shard.old.shard in IsTrue (is_out at grant) → IfOk result
             (ShowsRaise (past_of at) grant (raise_step (past_of at) grant)) }
-        ensures unknown { IsFalse (is_out shard.old.shard grant) → IfOk result (λ told.
-            (shard.new.shard ≡ shard.old.shard) × (told ≡ raising.Gone)) }
+        ensures unknown { IsFalse (is_out shard.old.shard grant) → IfOk result (λ answer.
+            (shard.new.shard ≡ shard.old.shard) × (answer ≡ raising.Gone)) }
         ensures stays { OnErr result (shard.new.shard ≡ shard.old.shard) }
         ensures belongs { IfOk result (IsRaiseOf grant) }
         ensures back { IfErr result (λ back. back ≡ grant) }
@@ -162,7 +162,7 @@ impl<H: BoundName> BoundBook<H> {
     {
         match grant.mode() {
             Mode::Invalidate => match self.raise(word, shard, who, grant) {
-                Ok(told) => Reply::Raise { told },
+                Ok(answer) => Reply::Raise { answer },
                 Err(grant) => Reply::RaiseBack { grant },
             },
             Mode::Refresh | Mode::Delta => share(grant),
@@ -172,10 +172,10 @@ impl<H: BoundName> BoundBook<H> {
 
 /// The reply to a raise that isn't made: as if another quarantine stood beside. The grant comes back.
 fn share(grant: Grant) -> Reply
-    ensures { result ≡ reply.Raise (raising.Shared grant grant.sid) }
+    ensures { result ≡ Reply.Raise (raising.Shared grant grant.sid) }
 {
     let holder = grant.sid();
     Reply::Raise {
-        told: Raising::Shared { grant, holder },
+        answer: Raising::Shared { grant, holder },
     }
 }

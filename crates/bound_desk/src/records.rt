@@ -20,13 +20,13 @@ pub(crate) struct Record {
 
 impl Model for Record {
     ghost use Rattle.std.specs.Prelude.{List, ◌++◌, flat_map, reverse};
-    ghost use Rattle.session_client.specs.Desks.{Call};
+    ghost use Rattle.session_client.specs.Desks.{Exchange};
     ghost use Rattle.bound_desk.specs.Records.{began_calls, asked_calls};
 
-    ghost Value = { List Call };
+    ghost Value = { List Exchange };
 
-    ghost view = { λ told. reverse (flat_map (λ call. began_calls call.0.items
-        ++ flat_map (λ one. asked_calls one.1 one.0.items) call.1.items) told.calls.items) };
+    ghost view = { λ noted. reverse (flat_map (λ call. began_calls call.0.items
+        ++ flat_map (λ one. asked_calls one.1 one.0.items) call.1.items) noted.calls.items) };
 }
 
 impl Record {
@@ -48,11 +48,11 @@ impl Record {
     }
 
     /// With a request and its reply.
-    pub(crate) fn asked(&self, request: &Request, told: &Reply) -> Record
+    pub(crate) fn asked(&self, request: &Request, reply: &Reply) -> Record
         ensures { (who : Sid) (wanted : Wanted) → request.now.items ≡ (who, wanted) ∷ []
-            → result ≡ Asked who wanted told.now ∷ self.now }
+            → result ≡ Asked who wanted reply.now ∷ self.now }
     {
-        let call = Log::new().and(request, told);
+        let call = Log::new().and(request, reply);
         Record {
             calls: self.calls.and(&Log::new(), &call),
         }

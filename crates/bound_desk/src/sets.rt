@@ -5,7 +5,7 @@ ghost use Rattle.session_client.specs.declared.replies.Wanted.TheVariants as wan
 ghost use Rattle.log_word.specs.Steps.{IsBeginning};
 ghost use Rattle.desk_book.specs.Borne.{IsBorne};
 ghost use Rattle.bound_hub.specs.Gets.{IsLastStep};
-ghost use Rattle.bound_hub.specs.Told.{set_short};
+ghost use Rattle.bound_hub.specs.StepShorts.{set_short};
 
 use crate::bound_books::BoundBook;
 use bound_hub::{BoundName, BoundShard};
@@ -34,8 +34,8 @@ impl<H: BoundName> BoundBook<H> {
         requires borne { (token ≡ 0)
             ⊎ IsBorne self.old.book.book who (wanted.Set key token value stamp) }
         ensures seen { IsBeginning self.old.seen self.new.seen }
-        ensures last { IfOk result (λ told. (has : Bool)
-            × IsLastStep (shard_of key H.word.shards) (set_short key token stamp told has)
+        ensures last { IfOk result (λ answer. (has : Bool)
+            × IsLastStep (shard_of key H.word.shards) (set_short key token stamp answer has)
             self.new.seen) }
         ensures book { self.new.book ≡ self.old.book }
     {

@@ -4,7 +4,7 @@ ghost use Rattle.rows_model.specs.Placement.{shard_of};
 ghost use Rattle.key_shard.specs.Answers.{IsAtHome};
 ghost use Rattle.session_client.specs.Belongs.{Belongs};
 ghost use Rattle.session_client.specs.Desks.{IsFirst};
-ghost use Rattle.session_client.specs.declared.replies.Reply.TheVariants as reply;
+ghost use Rattle.session_client.specs.declared.replies.Reply.TheVariants as Reply;
 ghost use Rattle.session_client.specs.declared.replies.Wanted.TheVariants as wanted;
 ghost use Rattle.executor.specs.OnShard.{IsFor, fault_of};
 ghost use Rattle.executor.specs.Requests.{key_of};
@@ -63,8 +63,8 @@ impl<H: BoundName> BoundBook<H> {
         requires home { IsAtHome shard.old.shard.terms key }
         ensures belongs { IfSome result (Belongs who (wanted.Get key floor)) }
         ensures seen { IsBeginning self.old.seen self.new.seen }
-        ensures first { IfSome result (λ told.
-            ShowsFirst H.terms H.before H.word.shards who told self.new.seen) }
+        ensures first { IfSome result (λ reply.
+            ShowsFirst H.terms H.before H.word.shards who reply self.new.seen) }
         ensures same { IfNone result (shard.new.shard ≡ shard.old.shard) }
     {
         match self.get_hit(word, shard, key, who, floor) {
@@ -93,7 +93,7 @@ impl<H: BoundName> BoundBook<H> {
         ensures first { ShowsFirst H.terms H.before H.word.shards who result self.new.seen }
     {
         match self.quarantine(word, shard, who, key, Mode::Invalidate, 0, now) {
-            Ok(told) => Reply::Quar { told },
+            Ok(answer) => Reply::Quar { answer },
             Err(fault) => refused(fault),
         }
     }
@@ -118,7 +118,7 @@ impl<H: BoundName> BoundBook<H> {
         ensures first { ShowsFirst H.terms H.before H.word.shards who result self.new.seen }
     {
         match self.quarantine(word, shard, who, key, Mode::Refresh, 0, now) {
-            Ok(told) => Reply::Quar { told },
+            Ok(answer) => Reply::Quar { answer },
             Err(fault) => refused(fault),
         }
     }
@@ -144,7 +144,7 @@ impl<H: BoundName> BoundBook<H> {
         ensures first { ShowsFirst H.terms H.before H.word.shards who result self.new.seen }
     {
         match self.quarantine(word, shard, who, key, Mode::Delta, by, now) {
-            Ok(told) => Reply::Quar { told },
+            Ok(answer) => Reply::Quar { answer },
             Err(fault) => refused(fault),
         }
     }
@@ -170,7 +170,7 @@ impl<H: BoundName> BoundBook<H> {
             (wanted.Set key token value stamp) result self.new.seen }
     {
         match self.set(word, shard, who, key, token, value, stamp, now) {
-            Ok(told) => Reply::Set { told },
+            Ok(answer) => Reply::Set { answer },
             Err(_) => Reply::Fault {
                 fault: Fault::Memory,
             },
@@ -217,7 +217,7 @@ impl<H: BoundName> BoundBook<H> {
             Wanted::QaRead { key } => self.reply_to_read(word, shard, who, key, now),
             Wanted::Delta { key, by } => self.reply_to_delta(word, shard, who, key, by, now),
             Wanted::Dar { grant } => Reply::Rel {
-                told: self.drop_value(word, shard, who, grant),
+                answer: self.drop_value(word, shard, who, grant),
             },
             Wanted::Sar {
                 grant,
@@ -228,8 +228,8 @@ impl<H: BoundName> BoundBook<H> {
             Wanted::Abort { grant } => self.reply_to_abort(word, shard, who, grant),
             Wanted::Raise { grant } => self.reply_to_raise(word, shard, who, grant),
             Wanted::Renew { grant } => {
-                let told = self.renew(word, shard, &grant, now).ok();
-                Reply::Renew { grant, told }
+                let answer = self.renew(word, shard, &grant, now).ok();
+                Reply::Renew { grant, answer }
             }
             Wanted::Ask { .. }
             | Wanted::Staged { .. }
@@ -243,7 +243,7 @@ impl<H: BoundName> BoundBook<H> {
 /// The reply to a request that the shard refused.
 fn refused(fault: ShardFault) -> Reply
     requires { (place : ℕ) → fault ≢ ShardFault.Stranger place }
-    ensures { result ≡ reply.Fault (fault_of fault) }
+    ensures { result ≡ Reply.Fault (fault_of fault) }
 {
     let fault = match fault {
         ShardFault::Spent { next: _ } => Fault::Spent,

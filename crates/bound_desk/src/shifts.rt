@@ -12,7 +12,7 @@ ghost use Rattle.log_word.specs.Steps.{IsBeginning};
 ghost use Rattle.desk_book.specs.Books.{noted_for, without_grant};
 ghost use Rattle.desk_book.specs.Borne.{IsBorne};
 ghost use Rattle.bound_hub.specs.Gets.{IsLastStep};
-ghost use Rattle.bound_hub.specs.Told.{release_short};
+ghost use Rattle.bound_hub.specs.StepShorts.{release_short};
 
 use crate::bound_books::BoundBook;
 use bound_hub::{BoundName, BoundShard};
@@ -56,8 +56,8 @@ impl<H: BoundName> BoundBook<H> {
             ≡ noted_for who (without_grant grant) self.old.book.book }
     {
         let ticket = Ticket::of(&grant);
-        let told = shard.release(word, &mut self.pass, grant, How::Shift { stamp });
+        let answer = shard.release(word, &mut self.pass, grant, How::Shift { stamp });
         self.book.note_spent(who, &ticket);
-        told
+        answer
     }
 }

@@ -3,7 +3,7 @@ ghost use Rattle.std.specs.Prelude.{◌≡◌};
 ghost use Rattle.expiry_sweeper.specs.Follows.{shards_of};
 
 use expiry_sweeper::{SweepReply, SweepWanted, Sweeper};
-use key_shard::{Got, Stands};
+use key_shard::{Blocker, Got};
 use session_client::{Reply, Wanted};
 
 /// Whether the time is of any account to a request on a shard.
@@ -34,7 +34,7 @@ fn is_held_up(reply: &Reply) -> bool {
         reply,
         Reply::Got {
             got: Got::Again {
-                standing: Stands::Q
+                standing: Blocker::Q
             }
         }
     )
@@ -49,7 +49,7 @@ fn turned(sweeper: Sweeper, shard: u32) -> Sweeper
     for _ in 0..sweeper.shards() {
         match turned.wants() {
             SweepWanted::Scan { shard: place } if place != shard => {
-                turned.told(SweepReply::NoneFound { shard: place });
+                turned.hear(SweepReply::NoneFound { shard: place });
             }
             _ => return turned,
         }

@@ -40,7 +40,7 @@ impl<H: BoundName> BoundBook<H> {
         match value {
             Some(value) => self.reply_to_put(word, shard, who, grant, value, stamp),
             None => Reply::Rel {
-                told: self.drop_value(word, shard, who, grant),
+                answer: self.drop_value(word, shard, who, grant),
             },
         }
     }
@@ -67,11 +67,11 @@ impl<H: BoundName> BoundBook<H> {
     {
         match grant.mode() {
             Mode::Refresh => match self.put_value(word, shard, who, grant, value, stamp) {
-                Ok(told) => Reply::Rel { told },
+                Ok(answer) => Reply::Rel { answer },
                 Err(Back { grant, value: _ }) => Reply::SarBack { grant },
             },
             Mode::Invalidate | Mode::Delta => Reply::Rel {
-                told: self.drop_value(word, shard, who, grant),
+                answer: self.drop_value(word, shard, who, grant),
             },
         }
     }
@@ -97,10 +97,10 @@ impl<H: BoundName> BoundBook<H> {
     {
         match grant.mode() {
             Mode::Delta if grant.key().is_count() => Reply::Rel {
-                told: self.shift_value(word, shard, who, grant, stamp),
+                answer: self.shift_value(word, shard, who, grant, stamp),
             },
             Mode::Invalidate | Mode::Refresh | Mode::Delta => Reply::Rel {
-                told: self.drop_value(word, shard, who, grant),
+                answer: self.drop_value(word, shard, who, grant),
             },
         }
     }

@@ -36,16 +36,16 @@ held_first opening stopped key (Some found) first = record {
 
 right_first : (opening : Tables) (stopped : Bool) (key : QKey) (found : Option (List ℕ × ℕ)) → IsFirst opening stopped key found → stopped ≡ false
     → IsEntryRight (answer_after opening key) [] found
-right_first opening stopped key None first told = tt
-right_first opening stopped key (Some found) first told =
-    subst (λ n. found.0 ≡ answer_after opening key (take n [])) (sym first.0) (first.1 told)
+right_first opening stopped key None first same = tt
+right_first opening stopped key (Some found) first same =
+    subst (λ n. found.0 ≡ answer_after opening key (take n [])) (sym first.0) (first.1 same)
 
 pub first_facts : (opening : Tables) (before : List Step) (seen : Seen) (key : QKey) → seen.events ≡ [] → IsFirst opening seen.stopped key (entry key before)
     → HoldsFacts opening before [] seen key
 first_facts opening before seen key none first = record {
   tied = record { granted = λ who token h. absurd h; stamped = stamped_first (entry key before) };
   held = subst (λ l. IsEntryHeld key [] (known_of l) (entry key before)) (sym none) (held_first opening seen.stopped key (entry key before) first);
-  right = λ told. subst (λ l. IsEntryRight (answer_after opening key) (commits_of l) (entry key before)) (sym none) (right_first opening seen.stopped key (entry key before) first told);
+  right = λ telling. subst (λ l. IsEntryRight (answer_after opening key) (commits_of l) (entry key before)) (sym none) (right_first opening seen.stopped key (entry key before) first telling);
 }
 
 still_held : (key : QKey) (marks : List Mark) (old new : Known) (found : Option (List ℕ × ℕ)) → IsMore old new → IsRuled key marks old → IsRuled key marks new
@@ -74,9 +74,9 @@ facts_go_on opening shards before more old new key sound_old sound_new were are 
       tied = facts.tied;
       held = still_held key marks (known_of old.events) (known_of new.events) found knows (keys_are_ruled shards old key before more sound_old were)
           (keys_are_ruled shards new key before more sound_new are) facts.held;
-      right = λ told.
+      right = λ telling.
           still_right (answer_after opening key) key marks (known_of old.events) (known_of new.events) found knows facts.held
-          (facts.right (was_not old.stopped new.stopped begins.stopped told));
+          (facts.right (was_not old.stopped new.stopped begins.stopped telling));
     }
 
 zero_first : (opening : Tables) (stopped : Bool) (key : QKey) (found : Option (List ℕ × ℕ)) → IsFirst opening stopped key found
@@ -97,7 +97,7 @@ bound_first word opening before shard pass at number count none blind new = reco
   stamps = λ key stamp e. zero_first opening pass.seen.stopped key (entry key (before shard.terms.no)) (new.entries key) stamp e;
   more = [];
   goes_on = new.past_is;
-  told = blind;
+  shorts_are = blind;
   outs = λ permit is. inr (new.drawn permit is);
   facts = λ key home. first_facts opening (before shard.terms.no) pass.seen key none (new.entries key);
   hits = λ _. tt;
@@ -117,20 +117,20 @@ bound_goes_on word opening before shard old new bound same_word same_shard begin
   stamps = bound.stamps;
   more = bound.more;
   goes_on = bound.goes_on;
-  told = told;
+  shorts_are = steps_same;
   outs = bound.outs;
   facts = λ key home.
       facts_go_on opening word.shards (before shard.terms.no) bound.more old.seen new.seen key
       (subst (λ (w : WordView). IsSound w.shards old.seen) bound.word_is sound_old)
       (subst (λ (w : WordView). IsSound w.shards new.seen) (same_word ∙ bound.word_is) sound_new)
-      (subst (λ n. steps_of n old.seen.steps ≡ shorts_of (before shard.terms.no) bound.more) (sym home) bound.told)
-      (subst (λ n. steps_of n new.seen.steps ≡ shorts_of (before shard.terms.no) bound.more) (sym home) told)
+      (subst (λ n. steps_of n old.seen.steps ≡ shorts_of (before shard.terms.no) bound.more) (sym home) bound.shorts_are)
+      (subst (λ n. steps_of n new.seen.steps ≡ shorts_of (before shard.terms.no) bound.more) (sym home) steps_same)
       begins (bound.facts key home);
   hits = λ told_now.
       hits_go_on opening old.seen.events new.seen.events (more_is_known old.seen new.seen begins) sound_new.in_order (before shard.terms.no) bound.more
-      (subst (AllByRecursion (IsBorneOut old.seen.events)) bound.told (sound_old.borne_out shard.terms.no))
+      (subst (AllByRecursion (IsBorneOut old.seen.events)) bound.shorts_are (sound_old.borne_out shard.terms.no))
       (bound.hits (was_not old.seen.stopped new.seen.stopped begins.stopped told_now));
 }
   where
-    told : steps_of shard.terms.no new.seen.steps ≡ shorts_of (before shard.terms.no) bound.more
-    told = subst (λ n. steps_of n new.seen.steps ≡ steps_of n old.seen.steps) bound.number same ∙ bound.told
+    steps_same : steps_of shard.terms.no new.seen.steps ≡ shorts_of (before shard.terms.no) bound.more
+    steps_same = subst (λ n. steps_of n new.seen.steps ≡ steps_of n old.seen.steps) bound.number same ∙ bound.shorts_are

@@ -18,8 +18,8 @@ use Rattle.bound_hub.specs.Gets.{IsGotHeld, IsGotFresh, IsLastStep}
 
 pub held_is_fresh : (opening : Tables) (before : List Step) (number : ℕ) (seen : Seen) (key : QKey) (answer : Got)
     → IsGotHeld opening before number seen key answer → IsGotFresh opening before number seen key answer
-held_is_fresh opening before number seen key (got.Hit value stamp) h = λ told.
-    (h.more, h.told, hit_is_fresh key opening (known_of seen.events) h.more value stamp h.held (h.right told))
+held_is_fresh opening before number seen key (got.Hit value stamp) h = λ telling.
+    (h.more, h.shorts_are, hit_is_fresh key opening (known_of seen.events) h.more value stamp h.held (h.right telling))
 held_is_fresh opening before number seen key (got.Lease token) h = tt
 held_is_fresh opening before number seen key (got.Again stands) h = tt
 held_is_fresh opening before number seen key got.Own h = tt

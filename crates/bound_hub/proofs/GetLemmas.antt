@@ -73,29 +73,29 @@ module _ (terms : Terms) (past : List Step) (key : QKey) (who : Sid) (floor now 
   abbrev Tells : Step → Type 0
   Tells s = ShowsGot s answer → (got_short key who answer has ≡ short_of s has) × (key_of s ≡ key)
 
-  told : (known : Got) → answer ≡ known → got_short key who answer has ≡ got_short key who known has
-  told known e = ap (λ a. got_short key who a has) e
+  same_short : (known : Got) → answer ≡ known → got_short key who answer has ≡ got_short key who known has
+  same_short known e = ap (λ a. got_short key who a has) e
 
   miss_tells : (v : Verdict) → Tells (miss_by terms past key who floor now v)
-  miss_tells verdicts.Give e = (told _ e, refl)
-  miss_tells verdicts.Wait e = (told _ e, refl)
-  miss_tells verdicts.Own e = (told _ e, refl)
-  miss_tells verdicts.Void e = (told _ e, refl)
-  miss_tells verdicts.Join e = (told _ e, refl)
-  miss_tells verdicts.Same e = (told _ e, refl)
-  miss_tells verdicts.Refuse e = (told _ e, refl)
-  miss_tells verdicts.Raise e = (told _ e, refl)
-  miss_tells verdicts.Gone e = (told _ e, refl)
+  miss_tells verdicts.Give e = (same_short _ e, refl)
+  miss_tells verdicts.Wait e = (same_short _ e, refl)
+  miss_tells verdicts.Own e = (same_short _ e, refl)
+  miss_tells verdicts.Void e = (same_short _ e, refl)
+  miss_tells verdicts.Join e = (same_short _ e, refl)
+  miss_tells verdicts.Same e = (same_short _ e, refl)
+  miss_tells verdicts.Refuse e = (same_short _ e, refl)
+  miss_tells verdicts.Raise e = (same_short _ e, refl)
+  miss_tells verdicts.Gone e = (same_short _ e, refl)
 
   found_tells : (found : Option (List ℕ × ℕ)) → Tells (found_step terms past key who floor now found)
   found_tells None = miss_tells _
   found_tells (Some found) =
       by_test (λ b. Tells (cond b (step.Hit key who floor found.0 found.1) (miss_step terms past key who floor now))) (nat_le floor found.1)
-      (λ is e. (told _ e, refl))
+      (λ is e. (same_short _ e, refl))
       (λ is. miss_tells _)
 
   own_tells : (own : Option Quar) → Tells (get_by terms past key who floor now own)
-  own_tells (Some own) e = (told _ e, refl)
+  own_tells (Some own) e = (same_short _ e, refl)
   own_tells None e = found_tells (entry key past) e
 
   pub get_tells : Tells (get_step terms past key who floor now)
@@ -172,4 +172,4 @@ is_some_mapped f (Some x) = refl
 
 -- whether there is an entry is told by looking at it
 pub has_mapped : {X Y : Type 0} (f : X → Y) (o : Option X) (found : Option Y) (has : Bool) → has ≡ is_some o → option_map f o ≡ found → has ≡ is_some found
-has_mapped f o found has told is = told ∙ is_some_mapped f o ∙ ap (λ x. is_some x) is
+has_mapped f o found has same is = same ∙ is_some_mapped f o ∙ ap (λ x. is_some x) is

@@ -22,7 +22,7 @@ use Rattle.bound_hub.specs.Facts.{HoldsFacts}
 use Rattle.bound_hub.specs.Ties.{IsBoundShard}
 use Rattle.bound_hub.specs.Gets.{got_short, IsGotHeld}
 use Rattle.bound_hub.proofs.GetLemmas.{got_is_honest, got_is_fresh, hit_leaves, get_tells, get_finds, got_borne_out, IsTheEntry}
-use Rattle.bound_hub.proofs.StepTies.{HasTold, has_rolled, bound_with_step, entry_is_seen}
+use Rattle.bound_hub.proofs.StepTies.{HasNoted, has_rolled, bound_with_step, entry_is_seen}
 
 module _ (word : WordView) (opening : Tables) (before : ℕ → List Step) (old : ShardView) (pass : ShardPassView) (bound : IsBoundShard word opening before old pass)
     (key : QKey) (who : Sid) (floor now : ℕ) (answer : Got) (home : shard_of key old.terms.count ≡ old.terms.no) (shows : ShowsGot (get_step old.terms (past_of old) key who floor now) answer) where
@@ -58,13 +58,13 @@ module _ (word : WordView) (opening : Tables) (before : ℕ → List Step) (old 
       (subst (λ past. IsTheEntry (entry key past) answer) bound.goes_on the_entry)
       facts.held
 
-  module _ (sound : IsSound pass.word.shards pass.seen) (new : ShardView) (told : ShardPassView) (has : Bool) (made : new ≡ stepped (rolled old) s)
-      (has_entry : has ≡ is_some (entry key (past_of new))) (at : told.word ≡ pass.word) (same : told.shard ≡ pass.shard)
-      (seen : told.seen ≡ with_step pass.shard (got_short key who answer has) pass.seen) where
+  module _ (sound : IsSound pass.word.shards pass.seen) (new : ShardView) (after : ShardPassView) (has : Bool) (made : new ≡ stepped (rolled old) s)
+      (has_entry : has ≡ is_some (entry key (past_of new))) (at : after.word ≡ pass.word) (same : after.shard ≡ pass.shard)
+      (seen : after.seen ≡ with_step pass.shard (got_short key who answer has) pass.seen) where
     tells : (got_short key who answer has ≡ short_of s has) × (key_of s ≡ key)
     tells = get_tells old.terms (past_of old) key who floor now answer has shows
 
-    saw : HasTold new s (got_short key who answer has) pass told
+    saw : HasNoted new s (got_short key who answer has) pass after
     saw = record {
       short_is = tells.0 ∙ ap (short_of s) (has_entry ∙ ap (λ k. is_some (entry k (past_of new))) (sym tells.1));
       word = at;
@@ -72,10 +72,10 @@ module _ (word : WordView) (opening : Tables) (before : ℕ → List Step) (old 
       seen = seen;
     }
 
-    pub bound_with_got : IsBoundShard word opening before new told
+    pub bound_with_got : IsBoundShard word opening before new after
     bound_with_got =
         bound_with_step word opening before old pass bound sound s (got_is_honest opening (before number) bound.more pass.seen s answer shows (fresh_got tells.1))
-        new (has_rolled old new s made) (got_short key who answer has) told saw
+        new (has_rolled old new s made) (got_short key who answer has) after saw
 
     same_no : new.terms.no ≡ number
     same_no = ap (λ (v : ShardView). v.terms.no) made
@@ -83,12 +83,12 @@ module _ (word : WordView) (opening : Tables) (before : ℕ → List Step) (old 
     home_of_word : shard_of key word.shards ≡ new.terms.no
     home_of_word = subst (λ n. shard_of key n ≡ number) bound.count home ∙ sym same_no
 
-    pub got_is_held : IsGotHeld opening (before number) number told.seen key answer
-    got_is_held = subst (λ n. IsGotHeld opening (before n) n told.seen key answer) same_no (by answer shows the_entry)
+    pub got_is_held : IsGotHeld opening (before number) number after.seen key answer
+    got_is_held = subst (λ n. IsGotHeld opening (before n) n after.seen key answer) same_no (by answer shows the_entry)
       where
-        by : (a : Got) → ShowsGot s a → IsTheEntry (entry key (past_of old)) a → IsGotHeld opening (before new.terms.no) new.terms.no told.seen key a
+        by : (a : Got) → ShowsGot s a → IsTheEntry (entry key (past_of old)) a → IsGotHeld opening (before new.terms.no) new.terms.no after.seen key a
         by (got.Hit value stamp) shown is =
-            entry_is_seen word opening before new told bound_with_got key home_of_word value stamp
+            entry_is_seen word opening before new after bound_with_got key home_of_word value stamp
             (ap (entry key) (has_rolled old new s made).past ∙ hit_leaves key (past_of old) s value stamp shown ∙ is)
         by (got.Lease token) shown is = tt
         by (got.Again stands) shown is = tt

@@ -52,7 +52,7 @@ same_stop shard store both begins together running = together.stopped ∙ by sha
     by true is = absurd (false≢true (sym running ∙ begins.stopped is))
     by false is = running
 
-tells : (told : Option Tables) → IsSome told → is_none told ≡ false
+tells : (known_rows : Option Tables) → IsSome known_rows → is_none known_rows ≡ false
 tells None h = absurd (false≢true h)
 tells (Some rows) h = refl
 
@@ -72,15 +72,15 @@ module _ (word : WordView) (opening : Tables) (before : ℕ → List Step) (begu
       let marks = marks_of key bound.more in
       let facts = bound.facts key home in
       let held = subst (IsEntryHeld key marks (known_of mine.events)) at facts.held in
-      let told = subst (λ n. steps_of n mine.steps ≡ shorts_of (before shard.terms.no) bound.more) (sym home) bound.told in
-      let ruled = keys_are_ruled word.shards mine key (before shard.terms.no) bound.more sound told in
+      let steps_here = subst (λ n. steps_of n mine.steps ≡ shorts_of (before shard.terms.no) bound.more) (sym home) bound.shorts_are in
+      let ruled = keys_are_ruled word.shards mine key (before shard.terms.no) bound.more sound steps_here in
       record {
         within = let most = held.within in let e : length store.ledger.log ≡ length (commits_of mine.events) = ap (λ (l : List Commit). length l) log_is in omega (arith, most, e);
         lacking = λ place commit stands from touched.
             lacking_stands key marks (known_of mine.events) (stamp_of (entry key (before shard.terms.no))) (standing key past) (entry key past) stamp ruled facts.tied held place commit
             (subst (λ l. slice_get l place ≡ Some commit) log_is stands) from touched;
         right = λ some.
-            let value_is = subst (IsEntryRight (answer_after opening key) (commits_of mine.events)) at (facts.right (running (tied.stopped ∙ tells store.told some))) in
+            let value_is = subst (IsEntryRight (answer_after opening key) (commits_of mine.events)) at (facts.right (running (tied.stopped ∙ tells store.known_rows some))) in
             value_is ∙ sym (ap (λ log. answer_after opening key (take stamp log)) log_is);
       }
 
@@ -88,16 +88,16 @@ module _ (word : WordView) (opening : Tables) (before : ℕ → List Step) (begu
   is_left = record {
     more = bound.more;
     goes_on = bound.goes_on;
-    told = subst (IsStart (steps_of shard.terms.no early.steps)) bound.told steps;
+    shorts_are = subst (IsStart (steps_of shard.terms.no early.steps)) bound.shorts_are steps;
     entries = λ key value stamp home at.
         subst (λ past. IsKept opening store key (standing key past) value stamp) (sym bound.goes_on)
         (is_kept key value stamp (subst (λ n. shard_of key n ≡ shard.terms.no) bound.count home) (subst (λ past. entry key past ≡ Some (value, stamp)) bound.goes_on at));
     hits = λ some.
-        subst (λ (log : List Commit). IsFreshPast opening log bound.more) (sym log_is) (bound.hits (running (tied.stopped ∙ tells store.told some)));
+        subst (λ (log : List Commit). IsFreshPast opening log bound.more) (sym log_is) (bound.hits (running (tied.stopped ∙ tells store.known_rows some)));
     covered = λ place commit key stands touched home.
         let home_of_word = subst (λ n. shard_of key n ≡ shard.terms.no) bound.count home in
-        let told = subst (λ n. steps_of n mine.steps ≡ shorts_of (before shard.terms.no) bound.more) (sym home_of_word) bound.told in
-        let ruled = keys_are_ruled word.shards mine key (before shard.terms.no) bound.more sound told in
+        let steps_here = subst (λ n. steps_of n mine.steps ≡ shorts_of (before shard.terms.no) bound.more) (sym home_of_word) bound.shorts_are in
+        let ruled = keys_are_ruled word.shards mine key (before shard.terms.no) bound.more sound steps_here in
         granted-quarantined key commit.sid bound.more (ruled.covered place commit (subst (λ l. slice_get l place ≡ Some commit) log_is stands) touched);
   }
 
@@ -107,8 +107,8 @@ pub left_early : (opening : Tables) (before : ℕ → List Step) (store : StoreV
 left_early opening before store shard early late begins left = record {
   more = left.more;
   goes_on = left.goes_on;
-  told =
-      start_trans (steps_of shard.terms.no early.steps) (steps_of shard.terms.no late.steps) (shorts_of (before shard.terms.no) left.more) (begins.steps shard.terms.no) left.told;
+  shorts_are =
+      start_trans (steps_of shard.terms.no early.steps) (steps_of shard.terms.no late.steps) (shorts_of (before shard.terms.no) left.more) (begins.steps shard.terms.no) left.shorts_are;
   entries = left.entries;
   hits = left.hits;
   covered = left.covered;

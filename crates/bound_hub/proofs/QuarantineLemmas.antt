@@ -26,7 +26,7 @@ use Rattle.key_freshness.specs.Marks.{key_of}
 use Rattle.bound_hub.specs.Olds.{IsOldHeld, IsGrantHeld}
 use Rattle.bound_hub.specs.Shorts.{short_of}
 use Rattle.bound_hub.specs.Ties.{IsBoundShard}
-use Rattle.bound_hub.specs.Told.{quarantine_short}
+use Rattle.bound_hub.specs.StepShorts.{quarantine_short}
 use Rattle.bound_hub.proofs.StepFacts.{IsHonestStep}
 use Rattle.bound_hub.proofs.StepTies.{entry_is_seen}
 

@@ -22,7 +22,7 @@ use Rattle.log_word.specs.Steps.{IsBorneOut}
 use Rattle.key_freshness.specs.Marks.{key_of}
 use Rattle.bound_hub.specs.Olds.{IsOldHeld, IsRaiseHeld}
 use Rattle.bound_hub.specs.Shorts.{short_of}
-use Rattle.bound_hub.specs.Told.{raise_short, renew_short}
+use Rattle.bound_hub.specs.StepShorts.{raise_short, renew_short}
 use Rattle.bound_hub.proofs.StepFacts.{IsHonestStep}
 use Rattle.bound_hub.proofs.StepTies.{HasStepped, has_stepped, has_returned}
 

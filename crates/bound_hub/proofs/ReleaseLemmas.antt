@@ -42,7 +42,7 @@ use Rattle.bound_hub.specs.Writes.{WasAlone, IsLawful, MayPut, MayShift, refresh
 use Rattle.bound_hub.specs.Facts.{answer_after}
 use Rattle.bound_hub.specs.Shorts.{kind_of_end, stamp_of_end, short, short_of}
 use Rattle.bound_hub.specs.Ties.{IsBoundShard}
-use Rattle.bound_hub.specs.Told.{kind_of_how, stamp_of_how, release_short, replace_short}
+use Rattle.bound_hub.specs.StepShorts.{kind_of_how, stamp_of_how, release_short, replace_short}
 use Rattle.bound_hub.proofs.EventLemmas.{commits_counted, over_is_known, known_goes_on}
 use Rattle.bound_hub.proofs.FactLemmas.{was_not}
 use Rattle.bound_hub.proofs.StandingGrants.{own_quar}
@@ -83,9 +83,9 @@ shift_goes_on opening shards number key who token stamp old new begins may = rec
   alone = alone_goes_on shards number key who token stamp old new begins may.alone;
   granted = may.granted;
   by_so_much = may.by_so_much;
-  lawful = λ told.
+  lawful = λ telling.
       subst (IsLawful key (answer_after opening key) (shifted_by key)) (same_early shards number key who token stamp old new begins may.alone)
-      (may.lawful (was_not old.stopped new.stopped begins.stopped told));
+      (may.lawful (was_not old.stopped new.stopped begins.stopped telling));
 }
 
 pub put_goes_on : (opening : Tables) (before : List Step) (shards number : ℕ) (key : QKey) (who token : ℕ) (value : List ℕ) (stamp : ℕ) (old new : Seen) → IsBeginning old new
@@ -95,9 +95,9 @@ put_goes_on opening before shards number key who token value stamp old new begin
   old = may.old;
   old_stamp = may.old_stamp;
   held = may.held;
-  lawful = λ told.
+  lawful = λ telling.
       subst (IsLawful key (answer_after opening key) (refreshed_by key)) (same_early shards number key who token stamp old new begins may.alone)
-      (may.lawful (was_not old.stopped new.stopped begins.stopped told));
+      (may.lawful (was_not old.stopped new.stopped begins.stopped telling));
   made = may.made;
 }
 
@@ -197,10 +197,10 @@ module _ (word : WordView) (opening : Tables) (before : ℕ → List Step) (old 
 
       true_end : (quar : Quar) → quar_of grant.key grant.token (past_of old) ≡ Some quar → (h : How) → MayRelease opening word.shards number grant h pass.seen → pass.seen.stopped ≡ false
           → IsTrueStep opening (commits_of pass.seen.events) (bound.more ++ before number) (step.Released grant.key quar.sid grant.token (ended_as quar h))
-      true_end quar stands hows.Keep may told = tt
-      true_end quar stands hows.Drop may told = tt
-      true_end quar stands (hows.Shift stamp) may told =
-          shift_is_right word opening before old pass bound legal sound grant.key grant.sid.number grant.token stamp home quar stands may told
+      true_end quar stands hows.Keep may telling = tt
+      true_end quar stands hows.Drop may telling = tt
+      true_end quar stands (hows.Shift stamp) may telling =
+          shift_is_right word opening before old pass bound legal sound grant.key grant.sid.number grant.token stamp home quar stands may telling
 
       pub release_is_honest : MayRelease opening word.shards number grant how pass.seen → IsHonestStep opening (before number) bound.more pass.seen s
       release_is_honest may =
@@ -249,7 +249,7 @@ module _ (word : WordView) (opening : Tables) (before : ℕ → List Step) (old 
         (λ quar stands. record {
           own = own_end quar stands (ended.Put value stamp (evicts old.terms grant.key (past_of old)));
           honest = held_end home stamp may.alone quar stands;
-          true_step = λ told. put_is_right word opening before old pass bound legal sound grant.key grant.sid.number grant.token stamp home quar stands value may told;
+          true_step = λ telling. put_is_right word opening before old pass bound legal sound grant.key grant.sid.number grant.token stamp home quar stands value may telling;
           fresh_step = λ _. tt;
         })
         (λ _. record { own = tt; honest = tt; true_step = λ _. tt; fresh_step = λ _. tt })

@@ -33,7 +33,7 @@ use Rattle.bound_hub.specs.Knowns.{commits_of, known_of}
 use Rattle.bound_hub.specs.Facts.{answer_after}
 use Rattle.bound_hub.specs.Ties.{IsBoundShard}
 use Rattle.bound_hub.specs.Asked.{is_lease, IsLeaseOn, WasAsked, MaySet}
-use Rattle.bound_hub.specs.Told.{set_short}
+use Rattle.bound_hub.specs.StepShorts.{set_short}
 use Rattle.bound_hub.proofs.EventLemmas.{commits_counted}
 use Rattle.bound_hub.proofs.FactLemmas.{was_not}
 use Rattle.bound_hub.proofs.LeaseLemmas.{current_lease, none_granted, token_from_first, lease_moment}
@@ -56,9 +56,9 @@ asked_goes_on opening shards number key token value stamp old new more may =
       lease = asked.lease;
       late = asked.late;
       within = let k = more-length (more_is_known old new more) in let w = asked.within in omega (arith, k, w);
-      right = λ told.
+      right = λ telling.
           more_is_right (answer_after opening key) (known_of old.events) (known_of new.events) value stamp (more_is_known old new more) asked.within
-          (asked.right (was_not old.stopped new.stopped more.stopped told));
+          (asked.right (was_not old.stopped new.stopped more.stopped telling));
     })) may
 
 -- the step gives a lease to read the key under this token
@@ -93,7 +93,7 @@ module _ (word : WordView) (opening : Tables) (before : ℕ → List Step) (old 
   stored_held asked current =
       let lease = current_lease token now (recorded key (past_of old)) current in
       let start = subst (λ l. IsStart l (steps_of number pass.seen.steps)) asked.last.1 (asked.begins.steps number) in
-      let stands = stands_in (before number) bound.more asked.step asked.last.0 (subst (IsStart (asked.step ∷ asked.last.0)) bound.told start) in
+      let stands = stands_in (before number) bound.more asked.step asked.last.0 (subst (IsStart (asked.step ∷ asked.last.0)) bound.shorts_are start) in
       by stands.later stands.step stands.rest stands.goes_on (asked.last.1 ∙ sym stands.shorts)
       (is_lease_step key token stands.step _ (subst (IsLeaseOn key token) (sym (ap (first_or asked.step) stands.shorts)) asked.lease))
       lease.0 lease.1 lease.2
@@ -146,7 +146,7 @@ module _ (word : WordView) (opening : Tables) (before : ℕ → List Step) (old 
         set_cases (IsHonestStep opening (before number) bound.more pass.seen) old.terms (past_of old) key token value stamp now
         (λ current. ⊎_elim
         (λ zero. absurd (never_zero zero current))
-        (λ asked. record { own = tt; honest = stored_held asked current; true_step = λ told. asked.right told; fresh_step = λ _. tt })
+        (λ asked. record { own = tt; honest = stored_held asked current; true_step = λ telling. asked.right telling; fresh_step = λ _. tt })
         may)
         (λ _. record { own = tt; honest = tt; true_step = λ _. tt; fresh_step = λ _. tt })
 

@@ -75,33 +75,33 @@ either_is : (did_fail stopped : Bool) (seen : Seen) → (with_keeper_call did_fa
 either_is true stopped seen = refl
 either_is false stopped seen = refl
 
-neither : (a : Bool) (told : Option Tables) → (a || is_none told) ≡ false → IsSome told
-neither true told e = absurd (false≢true (sym e))
+neither : (a : Bool) (known_rows : Option Tables) → (a || is_none known_rows) ≡ false → IsSome known_rows
+neither true known_rows e = absurd (false≢true (sym e))
 neither false None e = absurd (false≢true (sym e))
 neither false (Some rows) e = refl
 
 -- the store tells its rows where it isn't seen to have stopped
-pub still_tells : (did_fail : Bool) (told : Option Tables) (old new : Seen) → new ≡ with_keeper_call did_fail (is_none told) old → new.stopped ≡ false → IsSome told
-still_tells did_fail told old new is running =
-    neither old.stopped told (sym (either_is did_fail (is_none told) old) ∙ sym (ap (λ (s : Seen). s.stopped) is) ∙ running)
+pub still_tells : (did_fail : Bool) (known_rows : Option Tables) (old new : Seen) → new ≡ with_keeper_call did_fail (is_none known_rows) old → new.stopped ≡ false → IsSome known_rows
+still_tells did_fail known_rows old new is running =
+    neither old.stopped known_rows (sym (either_is did_fail (is_none known_rows) old) ∙ sym (ap (λ (s : Seen). s.stopped) is) ∙ running)
 
 -- an ask goes as its clauses say
 pub ask_goes : (old new : StoreView) (asked : Result Answer KeepFault) {X : Type 0} → new.ledger ≡ with_call (keep_failed asked) old.ledger → Counts (keep_failed asked) old.faults new.faults
-    → (IsSome new.told → IsSome old.told × X) → Goes (keep_failed asked) (with_call (keep_failed asked) old.ledger) old new
-ask_goes old new asked ledger counts tells = record { ledger_is = ledger; counted = counts; told_before = λ some. (tells some).0 }
+    → (IsSome new.known_rows → IsSome old.known_rows × X) → Goes (keep_failed asked) (with_call (keep_failed asked) old.ledger) old new
+ask_goes old new asked ledger counts tells = record { ledger_is = ledger; counted = counts; known_before = λ some. (tells some).0 }
 
 pub answers : (key : QKey) (old new : StoreView) (asked : Result Answer KeepFault) → IfOk asked (λ given. (given.key ≡ key) × (given.stamp ≡ length old.ledger.log))
-    → (IsSome new.told → IsSome old.told × IfOk asked (λ given. given.value ≡ query.answer key (rows_of old.ledger))) → IfOk asked (IsAnswer key old new)
+    → (IsSome new.known_rows → IsSome old.known_rows × IfOk asked (λ given. given.value ≡ query.answer key (rows_of old.ledger))) → IfOk asked (IsAnswer key old new)
 answers key old new (Ok given) is tells = record { of_key = is.0; stamped = is.1; value_is = λ some. (tells some).1 }
 answers key old new (Err fault) is tells = tt
 
 -- and so does one on staged rows
 pub staged_goes : (old new : StoreView) (asked : Result (List ℕ) AfterFault) {X : Type 0} → new.ledger ≡ with_call (staged_failed asked) old.ledger → Counts (staged_failed asked) old.faults new.faults
-    → (IsSome new.told → IsSome old.told × X) → Goes (staged_failed asked) (with_call (staged_failed asked) old.ledger) old new
-staged_goes old new asked ledger counts tells = record { ledger_is = ledger; counted = counts; told_before = λ some. (tells some).0 }
+    → (IsSome new.known_rows → IsSome old.known_rows × X) → Goes (staged_failed asked) (with_call (staged_failed asked) old.ledger) old new
+staged_goes old new asked ledger counts tells = record { ledger_is = ledger; counted = counts; known_before = λ some. (tells some).0 }
 
 pub staged_is : (key : QKey) (txn : List Change) (old new : StoreView) (asked : Result (List ℕ) AfterFault) → new.ledger ≡ with_call (staged_failed asked) old.ledger
-    → Counts (staged_failed asked) old.faults new.faults → (IsSome new.told → IsSome old.told × AnswersAfter txn key (rows_of old.ledger) asked) → IsStaged key txn old new asked
+    → Counts (staged_failed asked) old.faults new.faults → (IsSome new.known_rows → IsSome old.known_rows × AnswersAfter txn key (rows_of old.ledger) asked) → IsStaged key txn old new asked
 staged_is key txn old new asked ledger counts tells = record { goes = staged_goes old new asked ledger counts tells; value_is = λ some. (tells some).1 }
 
 -- a commit for which there was no memory for a copy leaves the store
@@ -109,7 +109,7 @@ pub copy_refused : (sid : Sid) (txn : List Change) (permits : List Permit) (old 
     → IsRefusal (first_fault old.ledger sid permits txn) fault → ((rows : Tables) → IsTrueFault txn rows fault) → IsRefused sid txn permits old old fault
 copy_refused sid txn permits old fault unasked refusal any_rows = record {
   refusal = refusal;
-  goes = subst (λ b. Goes b (with_call b old.ledger) old old) (sym unasked) (record { ledger_is = refl; counted = refl; told_before = λ some. some });
+  goes = subst (λ b. Goes b (with_call b old.ledger) old old) (sym unasked) (record { ledger_is = refl; counted = refl; known_before = λ some. some });
   true_place = λ some. any_rows (rows_of old.ledger);
 }
 
@@ -119,10 +119,10 @@ or_same false = refl
 
 module _ (word : WordView) (begun failed : ℕ) (old new : StoreView) (pass : PassView) (bound : IsBoundStore word begun failed old pass) where
   -- the pass had seen already whether the store tells its rows
-  pub heard_already : pass.seen ≡ with_keeper_call false (is_none old.told) pass.seen
+  pub heard_already : pass.seen ≡ with_keeper_call false (is_none old.known_rows) pass.seen
   heard_already =
       ap (λ b. record { events = pass.seen.events; failures = pass.seen.failures; stopped = b; steps = pass.seen.steps })
-      (bound.stopped ∙ sym (or_same (is_none old.told)) ∙ sym (ap (λ b. b || is_none old.told) bound.stopped))
+      (bound.stopped ∙ sym (or_same (is_none old.known_rows)) ∙ sym (ap (λ b. b || is_none old.known_rows) bound.stopped))
 
   pub begin_shows : (sid : Sid) (worker : ℕ) (writes : Bool) (seen : Seen) → new.ledger ≡ with_session writes old.ledger → sid.number ≡ length new.ledger.sessions
       → seen ≡ with_event (event.Begin sid worker writes) pass.seen → ShowsBegin begun worker writes seen sid
@@ -144,7 +144,7 @@ module _ (word : WordView) (begun failed : ℕ) (old new : StoreView) (pass : Pa
   end_shows sid false seen never is =
       ap (λ (s : Seen). is_open_by sid.number s.events) is ∙ sym (open_is_by begun pass.seen.events old.ledger.sessions bound.sessions sid) ∙ never
 
-  module _ (opening : Tables) (cap : ℕ) (told : Option Tables) (start : Option ℕ) (named : IsNamedStore opening cap told start old) where
+  module _ (opening : Tables) (cap : ℕ) (known_rows : Option Tables) (start : Option ℕ) (named : IsNamedStore opening cap known_rows start old) where
     -- the rows are those after the commits that are seen
     rows_are : rows_of old.ledger ≡ rows_by opening pass.seen.events
     rows_are = ap (λ rows. rows_after rows old.ledger.log) named.opening_is ∙ ap (λ log. rows_after opening log) bound.log
@@ -156,60 +156,60 @@ module _ (word : WordView) (begun failed : ℕ) (old new : StoreView) (pass : Pa
         ∙ ap (λ (log : List Commit). commit_fault (is_open_by sid.number pass.seen.events) sid permits txn (length log) old.ledger.cap) bound.log
         ∙ ap (λ most. commit_fault (is_open_by sid.number pass.seen.events) sid permits txn (length (commits_of pass.seen.events)) most) named.cap_is
 
-    answer_shows : (key : QKey) (given : Answer) → IsAnswer key old new given → ShowsAnswer opening key (with_keeper_call false (is_none new.told) pass.seen) given
+    answer_shows : (key : QKey) (given : Answer) → IsAnswer key old new given → ShowsAnswer opening key (with_keeper_call false (is_none new.known_rows) pass.seen) given
     answer_shows key given h = record {
       of_key = h.of_key;
       stamped = h.stamped ∙ ap (λ (log : List Commit). length log) bound.log;
       right = λ running.
           let log = commits_of pass.seen.events in
-          let seen = with_keeper_call false (is_none new.told) pass.seen in
-          let value = h.value_is (still_tells false new.told pass.seen seen refl running) in
+          let seen = with_keeper_call false (is_none new.known_rows) pass.seen in
+          let value = h.value_is (still_tells false new.known_rows pass.seen seen refl running) in
           let whole = ap (λ n. take n log) (h.stamped ∙ ap (λ (l : List Commit). length l) bound.log) ∙ take-whole log in
           value ∙ ap (λ rows. query.answer key rows) rows_are ∙ sym (ap (λ l. answer_after opening key l) whole);
     }
 
     pub ask_shows : (key : QKey) (asked : Result Answer KeepFault) (seen : Seen) → IfOk asked (IsAnswer key old new)
-        → seen ≡ with_keeper_call (keep_failed asked) (is_none new.told) pass.seen → IfOk asked (ShowsAnswer opening key seen)
+        → seen ≡ with_keeper_call (keep_failed asked) (is_none new.known_rows) pass.seen → IfOk asked (ShowsAnswer opening key seen)
     ask_shows key (Ok given) seen h is = subst (λ s. ShowsAnswer opening key s given) (sym is) (answer_shows key given h)
     ask_shows key (Err fault) seen h is = tt
 
     pub staged_shows : (key : QKey) (txn : List Change) (made : Result (List ℕ) AfterFault) (did_fail : Bool) (seen : Seen) → IsStaged key txn old new made
-        → seen ≡ with_keeper_call did_fail (is_none new.told) pass.seen → ShowsStaged opening key txn seen made
+        → seen ≡ with_keeper_call did_fail (is_none new.known_rows) pass.seen → ShowsStaged opening key txn seen made
     staged_shows key txn made did_fail seen h is = λ running.
-        let events = ap (λ (s : Seen). s.events) is ∙ call_keeps_events did_fail (is_none new.told) pass.seen in
-        let given = h.value_is (still_tells did_fail new.told pass.seen seen is running) in
+        let events = ap (λ (s : Seen). s.events) is ∙ call_keeps_events did_fail (is_none new.known_rows) pass.seen in
+        let given = h.value_is (still_tells did_fail new.known_rows pass.seen seen is running) in
         subst (λ rows. AnswersAfter txn key rows made) (rows_are ∙ sym (ap (λ e. rows_by opening e) events)) given
 
     pub commit_shows : (sid : Sid) (txn : List Change) (permits : List Permit) (number : ℕ) (seen : Seen) → IsCommitted sid txn permits old new number
-        → seen ≡ with_event (event.Commit sid txn) (with_keeper_call false (is_none new.told) pass.seen) → ShowsCommit opening cap sid txn permits seen number
+        → seen ≡ with_event (event.Commit sid txn) (with_keeper_call false (is_none new.known_rows) pass.seen) → ShowsCommit opening cap sid txn permits seen number
     commit_shows sid txn permits number seen h is = record {
       earlier = pass.seen.events;
       last = ap (λ (s : Seen). s.events) is;
       admitted = sym (fault_is sid permits txn) ∙ h.admitted;
       number_is = h.number_is ∙ ap (λ (log : List Commit). length log + 1) bound.log;
       applied = λ running.
-          let heard = with_keeper_call false (is_none new.told) pass.seen in
-          let taken = h.applied (still_tells false new.told pass.seen heard refl (sym (ap (λ (s : Seen). s.stopped) is) ∙ running)) in
+          let heard = with_keeper_call false (is_none new.known_rows) pass.seen in
+          let taken = h.applied (still_tells false new.known_rows pass.seen heard refl (sym (ap (λ (s : Seen). s.stopped) is) ∙ running)) in
           (taken.0, subst (λ rows. apply_all txn rows ≡ Ok taken.0) rows_are taken.1);
     }
 
     pub refusal_shows : (sid : Sid) (txn : List Change) (permits : List Permit) (fault : CommitFault) (did_fail : Bool) (seen : Seen) → IsRefused sid txn permits old new fault
-        → seen ≡ with_keeper_call did_fail (is_none new.told) pass.seen → ShowsRefusal opening cap sid txn permits seen fault
+        → seen ≡ with_keeper_call did_fail (is_none new.known_rows) pass.seen → ShowsRefusal opening cap sid txn permits seen fault
     refusal_shows sid txn permits fault did_fail seen h is =
-        let events = ap (λ (s : Seen). s.events) is ∙ call_keeps_events did_fail (is_none new.told) pass.seen in
+        let events = ap (λ (s : Seen). s.events) is ∙ call_keeps_events did_fail (is_none new.known_rows) pass.seen in
         record {
           refusal =
               subst (λ first. IsRefusal first fault) (fault_is sid permits txn ∙ sym (ap (λ e. fault_by cap e sid permits txn) events)) h.refusal;
           true_place = λ running.
               subst (λ rows. IsTrueFault txn rows fault) (rows_are ∙ sym (ap (λ e. rows_by opening e) events))
-              (h.true_place (still_tells did_fail new.told pass.seen seen is running));
+              (h.true_place (still_tells did_fail new.known_rows pass.seen seen is running));
         }
 
 -- a caller who takes over what the store's pass has seen in the end loses nothing
 pub caller_goes_on : (caller : PassView) (note : PassView) (here made now : Seen) → note ≡ caller → IsBeginning note.seen here → IsBeginning here made → now ≡ made → IsBeginning caller.seen now
-caller_goes_on caller note here made now same told goes is =
+caller_goes_on caller note here made now same is_so goes is =
     subst (IsBeginning caller.seen) (sym is)
-    (beginning_trans caller.seen here made (subst (λ (p : PassView). IsBeginning p.seen here) same told) goes)
+    (beginning_trans caller.seen here made (subst (λ (p : PassView). IsBeginning p.seen here) same is_so) goes)
 
 -- a session that hasn't begun by what is seen hadn't by what was seen before
 none_begun_before : (old new : Seen) (who : ℕ) (was : Bool) → has_begun who old.events ≡ was → IsBeginning old new

@@ -78,5 +78,5 @@ pub facts_with_step : (opening : Tables) (before more : List Step) (seen : Seen)
 facts_with_step opening before more seen key s quiet zeros brings ruled facts = record {
   tied = tie_step key before quiet more s brings.own facts.tied;
   held = hold_step key before quiet (known_of seen.events) zeros more s brings.honest ruled facts.held;
-  right = λ told. right_step opening (commits_of seen.events) key (more ++ before) s (brings.true_step told) (facts.right told);
+  right = λ telling. right_step opening (commits_of seen.events) key (more ++ before) s (brings.true_step telling) (facts.right telling);
 }

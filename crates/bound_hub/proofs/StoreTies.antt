@@ -32,10 +32,10 @@ pub begin_may_follow : (word : WordView) (begun failed : ℕ) (old : StoreView) 
 begin_may_follow word begun failed old new pass writes sid bound made number =
     next_is_new begun pass.seen.events old.ledger.sessions bound.sessions sid (next_number old.ledger new writes sid made number)
 
-pub bound_with_begin : (word : WordView) (begun failed : ℕ) (old new : StoreView) (pass told : PassView) (sid : Sid) (worker : ℕ) (writes : Bool)
-    → IsBoundStore word begun failed old pass → new.ledger ≡ with_session writes old.ledger → new.told ≡ old.told → sid.number ≡ length new.ledger.sessions
-    → told.word ≡ pass.word → told.seen ≡ with_event (event.Begin sid worker writes) pass.seen → IsBoundStore word begun failed new told
-bound_with_begin word begun failed old new pass told sid worker writes bound made same number at seen =
+pub bound_with_begin : (word : WordView) (begun failed : ℕ) (old new : StoreView) (pass after : PassView) (sid : Sid) (worker : ℕ) (writes : Bool)
+    → IsBoundStore word begun failed old pass → new.ledger ≡ with_session writes old.ledger → new.known_rows ≡ old.known_rows → sid.number ≡ length new.ledger.sessions
+    → after.word ≡ pass.word → after.seen ≡ with_event (event.Begin sid worker writes) pass.seen → IsBoundStore word begun failed new after
+bound_with_begin word begun failed old new pass after sid worker writes bound made same number at seen =
     let events = pass.seen.events in
     let next = next_number old.ledger new.ledger writes sid made number in
     record {
@@ -61,39 +61,39 @@ counted : (failed n count : ℕ) → count ≡ min (failed + n) (2 ^ 64 - 1) →
 counted failed n count h = omega (arith, h)
 
 -- what the pass saw, in a word that stays
-at_word : (pass told : PassView) (seen : Seen) → told.word ≡ pass.word → told.seen ≡ seen → told ≡ record { word = pass.word; seen = seen }
-at_word pass told seen at is = ap (λ (w : WordView). record { word = w; seen = told.seen }) at ∙ ap (λ (s : Seen). record { word = pass.word; seen = s }) is
+at_word : (pass after : PassView) (seen : Seen) → after.word ≡ pass.word → after.seen ≡ seen → after ≡ record { word = pass.word; seen = seen }
+at_word pass after seen at is = ap (λ (w : WordView). record { word = w; seen = after.seen }) at ∙ ap (λ (s : Seen). record { word = pass.word; seen = s }) is
 
 module _ (word : WordView) (begun failed : ℕ) (old new : StoreView) (pass : PassView) (bound : IsBoundStore word begun failed old pass) where
-  stays_stopped : (IsSome new.told → IsSome old.told) → (pass.seen.stopped || is_none new.told) ≡ is_none new.told
-  stays_stopped h = ap (λ b. b || is_none new.told) bound.stopped ∙ stop_seen old.told new.told h
+  stays_stopped : (IsSome new.known_rows → IsSome old.known_rows) → (pass.seen.stopped || is_none new.known_rows) ≡ is_none new.known_rows
+  stays_stopped h = ap (λ b. b || is_none new.known_rows) bound.stopped ∙ stop_seen old.known_rows new.known_rows h
 
   -- a call of the keeper came back
   called : (did_fail : Bool) → Goes did_fail (with_call did_fail old.ledger) old new
-      → IsBoundStore word begun failed new (record { word = pass.word; seen = with_keeper_call did_fail (is_none new.told) pass.seen })
+      → IsBoundStore word begun failed new (record { word = pass.word; seen = with_keeper_call did_fail (is_none new.known_rows) pass.seen })
   called true goes = record {
     word_is = bound.word_is;
     log = ap (λ (l : Ledger). l.log) goes.ledger_is ∙ bound.log;
     sessions = subst (λ (l : Ledger). AreSessions begun pass.seen.events l.sessions) (sym goes.ledger_is) bound.sessions;
     failures = ap (λ (l : Ledger). l.failed) goes.ledger_is ∙ counted failed pass.seen.failures old.ledger.failed bound.failures;
-    stopped = stays_stopped goes.told_before;
+    stopped = stays_stopped goes.known_before;
   }
   called false goes = record {
     word_is = bound.word_is;
     log = ap (λ (l : Ledger). l.log) goes.ledger_is ∙ bound.log;
     sessions = subst (λ (l : Ledger). AreSessions begun pass.seen.events l.sessions) (sym goes.ledger_is) bound.sessions;
     failures = ap (λ (l : Ledger). l.failed) goes.ledger_is ∙ bound.failures;
-    stopped = stays_stopped goes.told_before;
+    stopped = stays_stopped goes.known_before;
   }
 
-  pub bound_with_call : (did_fail : Bool) (told : PassView) → Goes did_fail (with_call did_fail old.ledger) old new
-      → told.word ≡ pass.word → told.seen ≡ with_keeper_call did_fail (is_none new.told) pass.seen → IsBoundStore word begun failed new told
-  bound_with_call did_fail told goes at seen =
-      subst (IsBoundStore word begun failed new) (sym (at_word pass told (with_keeper_call did_fail (is_none new.told) pass.seen) at seen)) (called did_fail goes)
+  pub bound_with_call : (did_fail : Bool) (after : PassView) → Goes did_fail (with_call did_fail old.ledger) old new
+      → after.word ≡ pass.word → after.seen ≡ with_keeper_call did_fail (is_none new.known_rows) pass.seen → IsBoundStore word begun failed new after
+  bound_with_call did_fail after goes at seen =
+      subst (IsBoundStore word begun failed new) (sym (at_word pass after (with_keeper_call did_fail (is_none new.known_rows) pass.seen) at seen)) (called did_fail goes)
 
   -- a session committed
   committed : (sid : Sid) (txn : List Change) → is_open sid old.ledger.sessions ≡ true → Goes false (with_commit sid txn old.ledger) old new
-      → IsBoundStore word begun failed new (record { word = pass.word; seen = with_event (event.Commit sid txn) (with_keeper_call false (is_none new.told) pass.seen) })
+      → IsBoundStore word begun failed new (record { word = pass.word; seen = with_event (event.Commit sid txn) (with_keeper_call false (is_none new.known_rows) pass.seen) })
   committed sid txn may goes = record {
     word_is = bound.word_is;
     log = ap (λ (l : Ledger). l.log) goes.ledger_is ∙ ap (λ log. log ++ record { sid = sid; txn = txn } ∷ []) bound.log;
@@ -101,17 +101,17 @@ module _ (word : WordView) (begun failed : ℕ) (old new : StoreView) (pass : Pa
         subst (λ (l : Ledger). AreSessions begun (event.Commit sid txn ∷ pass.seen.events) l.sessions) (sym goes.ledger_is)
         (sessions_with_close begun pass.seen.events old.ledger.sessions bound.sessions sid phase.Committed (event.Commit sid txn) may refl (λ who. refl));
     failures = ap (λ (l : Ledger). l.failed) goes.ledger_is ∙ bound.failures;
-    stopped = stays_stopped goes.told_before;
+    stopped = stays_stopped goes.known_before;
   }
 
-  pub bound_with_commit : (sid : Sid) (txn : List Change) (told : PassView) → is_open sid old.ledger.sessions ≡ true → Goes false (with_commit sid txn old.ledger) old new
-      → told.word ≡ pass.word → told.seen ≡ with_event (event.Commit sid txn) (with_keeper_call false (is_none new.told) pass.seen) → IsBoundStore word begun failed new told
-  bound_with_commit sid txn told may goes at seen =
+  pub bound_with_commit : (sid : Sid) (txn : List Change) (after : PassView) → is_open sid old.ledger.sessions ≡ true → Goes false (with_commit sid txn old.ledger) old new
+      → after.word ≡ pass.word → after.seen ≡ with_event (event.Commit sid txn) (with_keeper_call false (is_none new.known_rows) pass.seen) → IsBoundStore word begun failed new after
+  bound_with_commit sid txn after may goes at seen =
       subst (IsBoundStore word begun failed new)
-      (sym (at_word pass told (with_event (event.Commit sid txn) (with_keeper_call false (is_none new.told) pass.seen)) at seen)) (committed sid txn may goes)
+      (sym (at_word pass after (with_event (event.Commit sid txn) (with_keeper_call false (is_none new.known_rows) pass.seen)) at seen)) (committed sid txn may goes)
 
   -- a session was ended, or wasn't open
-  ended : (sid : Sid) (was : Bool) → is_open sid old.ledger.sessions ≡ was → new.ledger ≡ with_end sid old.ledger → new.told ≡ old.told
+  ended : (sid : Sid) (was : Bool) → is_open sid old.ledger.sessions ≡ was → new.ledger ≡ with_end sid old.ledger → new.known_rows ≡ old.known_rows
       → IsBoundStore word begun failed new (record { word = pass.word; seen = with_end_of sid was pass.seen })
   ended sid true may made same =
       let is : new.ledger.sessions ≡ _ = ap (λ (l : Ledger). l.sessions) made ∙ ap (λ b. cond b (with_phase sid phase.Ended old.ledger.sessions) old.ledger.sessions) may in
@@ -134,46 +134,46 @@ module _ (word : WordView) (begun failed : ℕ) (old new : StoreView) (pass : Pa
         stopped = bound.stopped ∙ sym (ap (λ (o : Option Tables). is_none o) same);
       }
 
-  pub bound_with_end : (sid : Sid) (was : Bool) (told : PassView) → is_open sid old.ledger.sessions ≡ was → new.ledger ≡ with_end sid old.ledger → new.told ≡ old.told
-      → told.word ≡ pass.word → told.seen ≡ with_end_of sid was pass.seen → IsBoundStore word begun failed new told
-  bound_with_end sid was told is made same at seen =
-      subst (IsBoundStore word begun failed new) (sym (at_word pass told (with_end_of sid was pass.seen) at seen)) (ended sid was is made same)
+  pub bound_with_end : (sid : Sid) (was : Bool) (after : PassView) → is_open sid old.ledger.sessions ≡ was → new.ledger ≡ with_end sid old.ledger → new.known_rows ≡ old.known_rows
+      → after.word ≡ pass.word → after.seen ≡ with_end_of sid was pass.seen → IsBoundStore word begun failed new after
+  bound_with_end sid was after is made same at seen =
+      subst (IsBoundStore word begun failed new) (sym (at_word pass after (with_end_of sid was pass.seen) at seen)) (ended sid was is made same)
 
 -- what is named of the store stays so where opening rows and cap do, the keeper tells no rows anew, and its count of faults doesn't fall
-pub named_stays : (opening : Tables) (cap : ℕ) (told : Option Tables) (start : Option ℕ) (old new : StoreView) → IsNamedStore opening cap told start old
-    → new.ledger.opening ≡ old.ledger.opening → new.ledger.cap ≡ old.ledger.cap → (IsSome new.told → IsSome old.told) → old.faults ≤ new.faults
-    → IsNamedStore opening cap told start new
-named_stays opening cap told start old new named rows most tells rises = record {
+pub named_stays : (opening : Tables) (cap : ℕ) (known_rows : Option Tables) (start : Option ℕ) (old new : StoreView) → IsNamedStore opening cap known_rows start old
+    → new.ledger.opening ≡ old.ledger.opening → new.ledger.cap ≡ old.ledger.cap → (IsSome new.known_rows → IsSome old.known_rows) → old.faults ≤ new.faults
+    → IsNamedStore opening cap known_rows start new
+named_stays opening cap known_rows start old new named rows most tells rises = record {
   opening_is = rows ∙ named.opening_is;
   cap_is = most ∙ named.cap_is;
-  told_before = λ some. named.told_before (tells some);
+  known_before = λ some. named.known_before (tells some);
   never_fell = λ first is. let low = named.never_fell first is in omega (arith, low, rises);
 }
 
 -- so it does where a session begins
-pub named_with_begin : (opening : Tables) (cap : ℕ) (told : Option Tables) (start : Option ℕ) (old new : StoreView) (writes : Bool) → IsNamedStore opening cap told start old
-    → new.ledger ≡ with_session writes old.ledger → new.told ≡ old.told → new.faults ≡ old.faults → IsNamedStore opening cap told start new
-named_with_begin opening cap told start old new writes named made same faults =
-    named_stays opening cap told start old new named (ap (λ (l : Ledger). l.opening) made) (ap (λ (l : Ledger). l.cap) made)
+pub named_with_begin : (opening : Tables) (cap : ℕ) (known_rows : Option Tables) (start : Option ℕ) (old new : StoreView) (writes : Bool) → IsNamedStore opening cap known_rows start old
+    → new.ledger ≡ with_session writes old.ledger → new.known_rows ≡ old.known_rows → new.faults ≡ old.faults → IsNamedStore opening cap known_rows start new
+named_with_begin opening cap known_rows start old new writes named made same faults =
+    named_stays opening cap known_rows start old new named (ap (λ (l : Ledger). l.opening) made) (ap (λ (l : Ledger). l.cap) made)
     (λ some. subst (λ (o : Option Tables). IsSome o) same some) (omega (arith, faults))
 
 -- or is ended
-pub named_with_end : (opening : Tables) (cap : ℕ) (told : Option Tables) (start : Option ℕ) (old new : StoreView) (sid : Sid) → IsNamedStore opening cap told start old
-    → new.ledger ≡ with_end sid old.ledger → new.told ≡ old.told → new.faults ≡ old.faults → IsNamedStore opening cap told start new
-named_with_end opening cap told start old new sid named made same faults =
-    named_stays opening cap told start old new named (ap (λ (l : Ledger). l.opening) made) (ap (λ (l : Ledger). l.cap) made)
+pub named_with_end : (opening : Tables) (cap : ℕ) (known_rows : Option Tables) (start : Option ℕ) (old new : StoreView) (sid : Sid) → IsNamedStore opening cap known_rows start old
+    → new.ledger ≡ with_end sid old.ledger → new.known_rows ≡ old.known_rows → new.faults ≡ old.faults → IsNamedStore opening cap known_rows start new
+named_with_end opening cap known_rows start old new sid named made same faults =
+    named_stays opening cap known_rows start old new named (ap (λ (l : Ledger). l.opening) made) (ap (λ (l : Ledger). l.cap) made)
     (λ some. subst (λ (o : Option Tables). IsSome o) same some) (omega (arith, faults))
 
 -- or the keeper is asked
-pub named_with_call : (opening : Tables) (cap : ℕ) (told : Option Tables) (start : Option ℕ) (old new : StoreView) (did_fail : Bool) → IsNamedStore opening cap told start old
-    → Goes did_fail (with_call did_fail old.ledger) old new → old.faults ≤ new.faults → IsNamedStore opening cap told start new
-named_with_call opening cap told start old new true named goes rises =
-    named_stays opening cap told start old new named (ap (λ (l : Ledger). l.opening) goes.ledger_is) (ap (λ (l : Ledger). l.cap) goes.ledger_is) goes.told_before rises
-named_with_call opening cap told start old new false named goes rises =
-    named_stays opening cap told start old new named (ap (λ (l : Ledger). l.opening) goes.ledger_is) (ap (λ (l : Ledger). l.cap) goes.ledger_is) goes.told_before rises
+pub named_with_call : (opening : Tables) (cap : ℕ) (known_rows : Option Tables) (start : Option ℕ) (old new : StoreView) (did_fail : Bool) → IsNamedStore opening cap known_rows start old
+    → Goes did_fail (with_call did_fail old.ledger) old new → old.faults ≤ new.faults → IsNamedStore opening cap known_rows start new
+named_with_call opening cap known_rows start old new true named goes rises =
+    named_stays opening cap known_rows start old new named (ap (λ (l : Ledger). l.opening) goes.ledger_is) (ap (λ (l : Ledger). l.cap) goes.ledger_is) goes.known_before rises
+named_with_call opening cap known_rows start old new false named goes rises =
+    named_stays opening cap known_rows start old new named (ap (λ (l : Ledger). l.opening) goes.ledger_is) (ap (λ (l : Ledger). l.cap) goes.ledger_is) goes.known_before rises
 
 -- or a session commits
-pub named_with_commit : (opening : Tables) (cap : ℕ) (told : Option Tables) (start : Option ℕ) (old new : StoreView) (sid : Sid) (txn : List Change) → IsNamedStore opening cap told start old
-    → Goes false (with_commit sid txn old.ledger) old new → old.faults ≤ new.faults → IsNamedStore opening cap told start new
-named_with_commit opening cap told start old new sid txn named goes rises =
-    named_stays opening cap told start old new named (ap (λ (l : Ledger). l.opening) goes.ledger_is) (ap (λ (l : Ledger). l.cap) goes.ledger_is) goes.told_before rises
+pub named_with_commit : (opening : Tables) (cap : ℕ) (known_rows : Option Tables) (start : Option ℕ) (old new : StoreView) (sid : Sid) (txn : List Change) → IsNamedStore opening cap known_rows start old
+    → Goes false (with_commit sid txn old.ledger) old new → old.faults ≤ new.faults → IsNamedStore opening cap known_rows start new
+named_with_commit opening cap known_rows start old new sid txn named goes rises =
+    named_stays opening cap known_rows start old new named (ap (λ (l : Ledger). l.opening) goes.ledger_is) (ap (λ (l : Ledger). l.cap) goes.ledger_is) goes.known_before rises

@@ -17,7 +17,7 @@ use Rattle.key_shard.specs.declared.steps.Step.{Step}
 use Rattle.key_shard.specs.declared.steps.Step.TheVariants as step
 use Rattle.key_shard.specs.Past.{standing, quar_of, grants}
 use Rattle.key_shard.specs.Answers.{IsLegalPast, sweep_step}
-use Rattle.key_shard.specs.Replies.{sweep_told}
+use Rattle.key_shard.specs.Replies.{sweep_answer}
 use Rattle.key_shard.specs.Shards.{ShardView, past_of}
 use Rattle.key_shard.proofs.LegalLemmas.{legal_stands_well, own_token, token_stands}
 use Rattle.log_word.specs.declared.seen.Seen.{Seen}
@@ -105,7 +105,7 @@ due_was_granted word opening before shard pass bound now due h =
     let n = shard.terms.no in
     let here = subst (λ past. stands_as due.sid.number due.token (standing due.key past) ≡ true) bound.goes_on (due_stands now (past_of shard) due h) in
     let made = stands_by_grant due.key due.sid.number due.token (before n) bound.quiet bound.more here in
-    subst (λ l. list_any (grants_as due.key due.sid.number due.token) l ≡ true) (sym bound.told) (grant_is_seen due.key due.sid.number due.token (before n) bound.more made)
+    subst (λ l. list_any (grants_as due.key due.sid.number due.token) l ≡ true) (sym bound.shorts_are) (grant_is_seen due.key due.sid.number due.token (before n) bound.more made)
 
 pub each_due_was_granted : (word : WordView) (opening : Tables) (before : ℕ → List Step) (shard : ShardView) (pass : ShardPassView) → IsBoundShard word opening before shard pass
     → (now : ℕ) (found : Option Due) → IfSome found (StandsDue now (λ key. standing key (past_of shard)))
@@ -114,14 +114,14 @@ each_due_was_granted word opening before shard pass bound now None h = tt
 each_due_was_granted word opening before shard pass bound now (Some due) h = due_was_granted word opening before shard pass bound now due h
 
 -- a sweep that isn't Gone ended a quarantine that stood
-pub swept_one : (past : List Step) (key : QKey) (token : ℕ) (evicted : _) → rel.Released evicted ≡ sweep_told (sweep_step past key token)
+pub swept_one : (past : List Step) (key : QKey) (token : ℕ) (evicted : _) → rel.Released evicted ≡ sweep_answer (sweep_step past key token)
     → (quar : Quar) × (quar_of key token past ≡ Some quar) × (sweep_step past key token ≡ Some (step.Released key quar.sid token ended.Drop))
-swept_one past key token evicted told = by (quar_of key token past) refl
+swept_one past key token evicted is_so = by (quar_of key token past) refl
   where
     by : (o : Option Quar) → quar_of key token past ≡ o → (quar : Quar) × (quar_of key token past ≡ Some quar) × (sweep_step past key token ≡ Some (step.Released key quar.sid token ended.Drop))
     by (Some quar) is = (quar, is, ap (λ o. option_map (λ (q : Quar). step.Released key q.sid token ended.Drop) o) is)
     by None is =
-        let same : rel.Released evicted ≡ rel.Gone = told ∙ ap (λ o. sweep_told (option_map (λ (q : Quar). step.Released key q.sid token ended.Drop) o)) is in
+        let same : rel.Released evicted ≡ rel.Gone = is_so ∙ ap (λ o. sweep_answer (option_map (λ (q : Quar). step.Released key q.sid token ended.Drop) o)) is in
         absurd cc
 
 same_sid : (a b : Sid) → a.number ≡ b.number → a ≡ b
@@ -140,7 +140,7 @@ module _ (word : WordView) (opening : Tables) (before : ℕ → List Step) (old 
       same_sid quar.sid sid
       (one_session old.terms (before number) (quar_as key quar.sid.number token) (quar_as key sid.number token) refl bound.more (subst (IsLegalPast old.terms) bound.goes_on legal)
       (stands_by_grant key quar.sid.number token (before number) bound.quiet bound.more as_now)
-      (grant_was_made key sid.number token (before number) bound.more (subst (λ l. list_any (grants_as key sid.number token) l ≡ true) bound.told granted)))
+      (grant_was_made key sid.number token (before number) bound.more (subst (λ l. list_any (grants_as key sid.number token) l ≡ true) bound.shorts_are granted)))
 
   pub sweep_is_honest : is_over sid.number pass.seen.events ≡ true → IsHonestStep opening (before number) bound.more pass.seen (step.Released key quar.sid token ended.Drop)
   sweep_is_honest over = record {

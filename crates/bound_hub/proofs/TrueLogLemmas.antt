@@ -32,23 +32,23 @@ use Rattle.bound_hub.proofs.RuledLemmas.{more_is_known}
 
 -- no commit is seen at first
 pub true_first : (opening : Tables) (seen : Seen) → Fit opening → seen.events ≡ [] → IsTrueSoFar opening seen
-true_first opening seen fit none = λ told. subst (λ e. IsTrueLog opening (commits_of e)) (sym none) (record { fit = fit; applied = λ place commit at. absurd cc })
+true_first opening seen fit none = λ telling. subst (λ e. IsTrueLog opening (commits_of e)) (sym none) (record { fit = fit; applied = λ place commit at. absurd cc })
 
 -- the same commits are seen
 pub true_still : (opening : Tables) (old new : Seen) → (new.stopped ≡ false → old.stopped ≡ false) → commits_of new.events ≡ commits_of old.events
     → IsTrueSoFar opening old → IsTrueSoFar opening new
-true_still opening old new tells same h = λ told. subst (IsTrueLog opening) (sym same) (h (tells told))
+true_still opening old new tells same h = λ telling. subst (IsTrueLog opening) (sym same) (h (tells telling))
 
 pub true_with_begin : (opening : Tables) (old new : Seen) (sid : Sid) (worker : ℕ) (writes : Bool) → new ≡ with_event (event.Begin sid worker writes) old
     → IsTrueSoFar opening old → IsTrueSoFar opening new
 true_with_begin opening old new sid worker writes is =
-    true_still opening old new (λ told. sym (ap (λ (s : Seen). s.stopped) is) ∙ told) (ap (λ (s : Seen). commits_of s.events) is)
+    true_still opening old new (λ telling. sym (ap (λ (s : Seen). s.stopped) is) ∙ telling) (ap (λ (s : Seen). commits_of s.events) is)
 
 pub true_with_end : (opening : Tables) (old new : Seen) (sid : Sid) (was : Bool) → new ≡ with_end_of sid was old → IsTrueSoFar opening old → IsTrueSoFar opening new
 true_with_end opening old new sid true is =
-    true_still opening old new (λ told. sym (ap (λ (s : Seen). s.stopped) is) ∙ told) (ap (λ (s : Seen). commits_of s.events) is)
+    true_still opening old new (λ telling. sym (ap (λ (s : Seen). s.stopped) is) ∙ telling) (ap (λ (s : Seen). commits_of s.events) is)
 true_with_end opening old new sid false is =
-    true_still opening old new (λ told. sym (ap (λ (s : Seen). s.stopped) is) ∙ told) (ap (λ (s : Seen). commits_of s.events) is)
+    true_still opening old new (λ telling. sym (ap (λ (s : Seen). s.stopped) is) ∙ telling) (ap (λ (s : Seen). commits_of s.events) is)
 
 neither : (a b : Bool) → (a || b) ≡ false → a ≡ false
 neither true b e = e
@@ -56,9 +56,9 @@ neither false b e = refl
 
 pub true_with_call : (opening : Tables) (old new : Seen) (did_fail stopped : Bool) → new ≡ with_keeper_call did_fail stopped old → IsTrueSoFar opening old → IsTrueSoFar opening new
 true_with_call opening old new true stopped is =
-    true_still opening old new (λ told. neither old.stopped stopped (sym (ap (λ (s : Seen). s.stopped) is) ∙ told)) (ap (λ (s : Seen). commits_of s.events) is)
+    true_still opening old new (λ telling. neither old.stopped stopped (sym (ap (λ (s : Seen). s.stopped) is) ∙ telling)) (ap (λ (s : Seen). commits_of s.events) is)
 true_with_call opening old new false stopped is =
-    true_still opening old new (λ told. neither old.stopped stopped (sym (ap (λ (s : Seen). s.stopped) is) ∙ told)) (ap (λ (s : Seen). commits_of s.events) is)
+    true_still opening old new (λ telling. neither old.stopped stopped (sym (ap (λ (s : Seen). s.stopped) is) ∙ telling)) (ap (λ (s : Seen). commits_of s.events) is)
 
 abbrev behind : List StoreEvent → List StoreEvent
 behind [] = []
@@ -78,12 +78,12 @@ stands_under (first ∷ log) (suc place) commit at = let h = stands_under log pl
 pub true_with_commit : (opening : Tables) (cap : ℕ) (sid : Sid) (txn : List Change) (permits : List Permit) (number : ℕ) (old new : Seen) (stopped : Bool)
     → new ≡ with_event (event.Commit sid txn) (with_keeper_call false stopped old) → All HasIds txn → ShowsCommit opening cap sid txn permits new number
     → IsTrueSoFar opening old → IsTrueSoFar opening new
-true_with_commit opening cap sid txn permits number old new stopped is ids shows h = λ told.
+true_with_commit opening cap sid txn permits number old new stopped is ids shows h = λ telling.
     let log = commits_of old.events in
     let one : Commit = record { sid = sid; txn = txn } in
-    let was = h (neither old.stopped stopped (sym (ap (λ (s : Seen). s.stopped) is) ∙ told)) in
+    let was = h (neither old.stopped stopped (sym (ap (λ (s : Seen). s.stopped) is) ∙ telling)) in
     let same : shows.earlier ≡ old.events = ap behind (sym shows.last ∙ ap (λ (s : Seen). s.events) is) in
-    let taken = shows.applied told in
+    let taken = shows.applied telling in
     subst (IsTrueLog opening) (sym (ap (λ (s : Seen). commits_of s.events) is))
     (record {
       fit = was.fit;

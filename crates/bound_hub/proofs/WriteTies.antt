@@ -173,7 +173,7 @@ module _ (word : WordView) (opening : Tables) (before : ℕ → List Step) (old 
   pub alone_then : AloneThen
   alone_then =
       let start = subst (λ l. IsStart l (steps_of number pass.seen.steps)) was.last.1 (was.begins.steps number) in
-      let at = stands_in (before number) bound.more was.step was.last.0 (subst (IsStart (was.step ∷ was.last.0)) bound.told start) in
+      let at = stands_in (before number) bound.more was.step was.last.0 (subst (IsStart (was.step ∷ was.last.0)) bound.shorts_are start) in
       let s = at.step in
       let n = before number in
       let base = s ∷ at.rest ++ n in
@@ -281,24 +281,24 @@ module _ (word : WordView) (opening : Tables) (before : ℕ → List Step) (old 
   -- what is put is right
   pub put_is_right : (value : List ℕ) (may : MayPut opening (before n) word.shards n key who token value stamp pass.seen) → pass.seen.stopped ≡ false
       → IsRight (answer_after opening key) (commits_of pass.seen.events) value stamp
-  put_is_right value may told =
+  put_is_right value may telling =
       let was = may.alone in
       let then = alone_then word opening before old pass bound legal sound key who token stamp home was quar stands in
-      let told_then = was_not was.earlier.stopped pass.seen.stopped was.begins.stopped told in
-      let marks = same_marks key (before n) may.held.more then.steps (sym may.held.told ∙ then.shorts) in
+      let told_then = was_not was.earlier.stopped pass.seen.stopped was.begins.stopped telling in
+      let marks = same_marks key (before n) may.held.more then.steps (sym may.held.shorts_are ∙ then.shorts) in
       let within = may.held.held.within in
       let late = was.late in
       let right = more_is_right (answer_after opening key) (known_of was.earlier.events) (known_of pass.seen.events) may.old may.old_stamp
       (more_is_known was.earlier pass.seen was.begins) within (may.held.right told_then) in
       some_same (sym may.made
-      ∙ made_alone word opening before old pass bound legal sound key who token stamp home was quar stands (answer_after opening key) (refreshed_by key) (may.lawful told)
+      ∙ made_alone word opening before old pass bound legal sound key who token stamp home was quar stands (answer_after opening key) (refreshed_by key) (may.lawful telling)
       may.old may.old_stamp (omega (arith, within, late)) right
       (λ q commit its at from touched over. may.held.held.pending q commit its at from touched (subst (Has (Ended commit.sid.number its)) (sym marks) over)))
 
   -- and so is what a shift leaves
   pub shift_is_right : (may : MayShift opening word.shards n key who token stamp pass.seen) → pass.seen.stopped ≡ false
       → IsEntryRight (answer_after opening key) (commits_of pass.seen.events) (entry_shifted quar.shift stamp (entry key (bound.more ++ before n)))
-  shift_is_right may told = by (entry key (bound.more ++ before n)) facts.tied.stamped facts.held (facts.right told)
+  shift_is_right may telling = by (entry key (bound.more ++ before n)) facts.tied.stamped facts.held (facts.right telling)
     where
       facts : HoldsFacts opening (before n) bound.more pass.seen key
       facts = bound.facts key home
@@ -323,7 +323,7 @@ module _ (word : WordView) (opening : Tables) (before : ℕ → List Step) (old 
 
           made : shifted_by key may.alone.own.txn value ≡ Some (answer_after opening key (take stamp (commits_of pass.seen.events)))
           made =
-              made_alone word opening before old pass bound legal sound key who token stamp home may.alone quar stands (answer_after opening key) (shifted_by key) (may.lawful told)
+              made_alone word opening before old pass bound legal sound key who token stamp home may.alone quar stands (answer_after opening key) (shifted_by key) (may.lawful telling)
               value at_stamp (let l = low in let late = may.alone.late in omega (arith, l, late)) right
               (λ q commit its at from touched over.
               held.pending q commit its (more-stands known_more q commit at) from touched

@@ -28,7 +28,7 @@ got_short key who got.Own has = short kinds.Own key who 0 0 has
 -- these steps before the hub was. It is right, unless it is seen that the store has stopped telling its rows.
 pub record IsSeenHeld (opening : Tables) (before : List Step) (number : ℕ) (seen : Seen) (key : QKey) (value : List ℕ) (stamp : ℕ) : Type 0 where
   pub more : List Step
-  pub told : steps_of number seen.steps ≡ shorts_of before more
+  pub shorts_are : steps_of number seen.steps ≡ shorts_of before more
   pub held : IsHeld key (marks_of key more) (known_of seen.events) stamp
   pub right : seen.stopped ≡ false → IsRight (answer_after opening key) (commits_of seen.events) value stamp
 

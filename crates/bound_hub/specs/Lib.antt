@@ -8,7 +8,7 @@ pub mod Gets
 pub mod Spent
 pub mod Stores
 pub mod Parts
-pub mod Told
+pub mod StepShorts
 pub mod Asked
 pub mod Olds
 pub mod Releases

@@ -28,7 +28,7 @@ pub record IsKept (opening : Tables) (store : StoreView) (key : QKey) (stands : 
   pub within : stamp ≤ length store.ledger.log
   pub lacking : (place : ℕ) (commit : Commit) → slice_get store.ledger.log place ≡ Some commit → stamp ≤ place
       → touches commit.txn key ≡ true → (token : ℕ) × (stands_as commit.sid.number token stands ≡ true)
-  pub right : IsSome store.told → value ≡ query.answer key (state opening store.ledger.log stamp)
+  pub right : IsSome store.known_rows → value ≡ query.answer key (state opening store.ledger.log stamp)
 
 -- A shard goes on from the steps that it had made before. Those that are seen of it are the first of its steps since.
 -- Each of its entries is kept beside the store. Where the store tells its rows, each hit since is fresh. Each commit of the log
@@ -36,10 +36,10 @@ pub record IsKept (opening : Tables) (store : StoreView) (key : QKey) (stands : 
 pub record IsLeft (opening : Tables) (before : ℕ → List Step) (store : StoreView) (seen : Seen) (shard : ShardView) : Type 0 where
   pub more : List Step
   pub goes_on : past_of shard ≡ more ++ before shard.terms.no
-  pub told : IsStart (steps_of shard.terms.no seen.steps) (shorts_of (before shard.terms.no) more)
+  pub shorts_are : IsStart (steps_of shard.terms.no seen.steps) (shorts_of (before shard.terms.no) more)
   pub entries : (key : QKey) (value : List ℕ) (stamp : ℕ) → IsAtHome shard.terms key
       → entry key (past_of shard) ≡ Some (value, stamp) → IsKept opening store key (standing key (past_of shard)) value stamp
-  pub hits : IsSome store.told → IsFreshPast opening store.ledger.log more
+  pub hits : IsSome store.known_rows → IsFreshPast opening store.ledger.log more
   pub covered : (place : ℕ) (commit : Commit) (key : QKey) → slice_get store.ledger.log place ≡ Some commit → touches commit.txn key ≡ true
       → IsAtHome shard.terms key → IsTrue (list_any (quarantines key commit.sid) more)
 
@@ -50,4 +50,4 @@ pub record IsGathered (shards failed : ℕ) (store : StoreView) (passes : List P
   pub sound : IsSound shards seen
   pub log : store.ledger.log ≡ commits_of seen.events
   pub failures : store.ledger.failed ≡ min (failed + seen.failures) (2 ^ 64 - 1)
-  pub stopped : seen.stopped ≡ is_none store.told
+  pub stopped : seen.stopped ≡ is_none store.known_rows

@@ -13,7 +13,7 @@ use Rattle.bound_hub.specs.Shorts.{shorts_of}
 pub record HasSeenAll (before : List Step) (shard : ShardView) (seen : Seen) : Type 0 where
   pub more : List Step
   pub goes_on : past_of shard ≡ more ++ before
-  pub told : steps_of shard.terms.no seen.steps ≡ shorts_of before more
+  pub shorts_are : steps_of shard.terms.no seen.steps ≡ shorts_of before more
 
 -- A shard that refused for want of a token has none left: the next one would be the last number.
 abbrev pub HasNoToken : ShardView → ShardFault → Type 0
@@ -24,7 +24,7 @@ HasNoToken shard other = Unit {0}
 -- the first of those that are seen.
 pub record IsSeenSpent (terms : Terms) (before : List Step) (number : ℕ) (seen : Seen) : Type 0 where
   pub more : List Step
-  pub told : IsStart (shorts_of before more) (steps_of number seen.steps)
+  pub shorts_are : IsStart (shorts_of before more) (steps_of number seen.steps)
   pub last : next_token terms (more ++ before) ≡ 2 ^ 64 - 1
 
 -- Where the shard of this number refused for want of a token, that is seen.

@@ -53,7 +53,7 @@ pub record IsBoundShard (word : WordView) (opening : Tables) (before : ℕ → L
   pub stamps : AreOfStampZero (before shard.terms.no)
   pub more : List Step
   pub goes_on : past_of shard ≡ more ++ before shard.terms.no
-  pub told : steps_of shard.terms.no pass.seen.steps ≡ shorts_of (before shard.terms.no) more
+  pub shorts_are : steps_of shard.terms.no pass.seen.steps ≡ shorts_of (before shard.terms.no) more
   pub outs : (permit : Permit) → is_out shard permit ≡ true → WasGrantedOr shard.terms (before shard.terms.no) more permit
   pub facts : (key : QKey) → shard_of key word.shards ≡ shard.terms.no → HoldsFacts opening (before shard.terms.no) more pass.seen key
   pub hits : pass.seen.stopped ≡ false → IsFreshPast opening (commits_of pass.seen.events) more
@@ -96,7 +96,7 @@ pub record IsBoundStore (word : WordView) (begun failed : ℕ) (store : StoreVie
   pub log : store.ledger.log ≡ commits_of pass.seen.events
   pub sessions : AreSessions begun pass.seen.events store.ledger.sessions
   pub failures : store.ledger.failed ≡ min (failed + pass.seen.failures) (2 ^ 64 - 1)
-  pub stopped : pass.seen.stopped ≡ is_none store.told
+  pub stopped : pass.seen.stopped ≡ is_none store.known_rows
 
 -- A store is as it was when it was named: nothing is committed, and no session is open.
 pub record IsNewStore (begun failed : ℕ) (store : StoreView) : Type 0 where

@@ -20,7 +20,7 @@ impl<K: Keeper, H: BoundName> BoundStore<K, H> {
             (with_call (keep_failed result) self.old.store.ledger) self.old.store self.new.store }
         ensures answer { IfOk result (IsAnswer key.now self.old.store self.new.store) }
         ensures seen { self.new.seen ≡ with_keeper_call (keep_failed result)
-            (is_none self.new.store.told) self.old.seen }
+            (is_none self.new.store.known_rows) self.old.seen }
         ensures goes_on { IsBeginning self.old.seen self.new.seen }
         ensures shows { IfOk result (ShowsAnswer H.opening key.now self.new.seen) }
     {
@@ -40,7 +40,7 @@ impl<K: Keeper, H: BoundName> BoundStore<K, H> {
         requires word { word.now ≡ H.word }
         ensures staged { IsStaged key.now txn.now self.old.store self.new.store result }
         ensures seen { self.new.seen ≡ with_keeper_call (staged_failed result)
-            (is_none self.new.store.told) self.old.seen }
+            (is_none self.new.store.known_rows) self.old.seen }
         ensures goes_on { IsBeginning self.old.seen self.new.seen }
         ensures shows { ShowsStaged H.opening key.now txn.now self.new.seen result }
     {

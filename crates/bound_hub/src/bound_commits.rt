@@ -39,9 +39,9 @@ impl<K: Keeper, H: BoundName> BoundStore<K, H> {
             (λ fault. IsRefused sid txn grants.now self.old.store self.new.store fault) }
         ensures seen { MatchResult result.0
             (λ _. self.new.seen ≡ with_event (Commit sid txn)
-            (with_keeper_call false (is_none self.new.store.told) self.old.seen))
+            (with_keeper_call false (is_none self.new.store.known_rows) self.old.seen))
             (λ fault. self.new.seen ≡ with_keeper_call (is_failure fault)
-            (is_none self.new.store.told) self.old.seen) }
+            (is_none self.new.store.known_rows) self.old.seen) }
         ensures goes_on { IsBeginning self.old.seen self.new.seen }
         ensures ok { IfOk result.0 (ShowsCommit H.opening H.cap sid txn grants.now self.new.seen) }
         ensures err { IfErr result.0 (ShowsRefusal H.opening H.cap sid txn grants.now self.new.seen) }

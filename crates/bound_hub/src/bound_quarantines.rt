@@ -8,11 +8,11 @@ ghost use Rattle.log_word.specs.Events.{may_write};
 ghost use Rattle.log_word.specs.Steps.{IsBeginning};
 ghost use Rattle.bound_hub.specs.Gets.{IsLastStep};
 ghost use Rattle.bound_hub.specs.Olds.{IsGrantHeld};
-ghost use Rattle.bound_hub.specs.Told.{quarantine_short};
+ghost use Rattle.bound_hub.specs.StepShorts.{quarantine_short};
 
 use crate::bound_shards::BoundShard;
 use crate::names::BoundName;
-use crate::told::quarantine_short;
+use crate::step_shorts::quarantine_short;
 use key_shard::{QAnswer, ShardFault};
 use lease_table::Mode;
 use log_word::{LogWord, Note, Pass};
@@ -51,12 +51,12 @@ impl<H: BoundName> BoundShard<H> {
         ensures word { pass.new.word ≡ H.word }
         ensures seen { IsBeginning pass.old.seen pass.new.seen }
         ensures here { IsBeginning self.old.seen pass.new.seen }
-        ensures last { IfOk result (λ told. IsLastStep self.old.shard.terms.no
-            (quarantine_short key who mode shift told
+        ensures last { IfOk result (λ answer. IsLastStep self.old.shard.terms.no
+            (quarantine_short key who mode shift answer
             (is_some (entry key (past_of self.new.shard))))
             pass.new.seen) }
-        ensures old { IfOk result (λ told. let no = self.old.shard.terms.no in
-            IsGrantHeld H.opening (H.before no) no pass.new.seen key told) }
+        ensures old { IfOk result (λ answer. let no = self.old.shard.terms.no in
+            IsGrantHeld H.opening (H.before no) no pass.new.seen key answer) }
     {
         self.join(word, pass.note(word));
         let (result, note) = self.make_quarantine(word, key, who, mode, shift, now);
@@ -88,20 +88,20 @@ impl<H: BoundName> BoundShard<H> {
             IfOk result.0 (ShowsQuarantine shard.terms (past_of shard) step) }
         ensures err { OnErr result.0 (self.new.shard ≡ self.old.shard) }
         ensures goes_on { IsBeginning self.old.seen self.new.seen }
-        ensures last { IfOk result.0 (λ told. IsLastStep self.old.shard.terms.no
-            (quarantine_short key who mode shift told
+        ensures last { IfOk result.0 (λ answer. IsLastStep self.old.shard.terms.no
+            (quarantine_short key who mode shift answer
             (is_some (entry key (past_of self.new.shard))))
             self.new.seen) }
-        ensures old { IfOk result.0 (λ told. let no = self.old.shard.terms.no in
-            IsGrantHeld H.opening (H.before no) no self.new.seen key told) }
+        ensures old { IfOk result.0 (λ answer. let no = self.old.shard.terms.no in
+            IsGrantHeld H.opening (H.before no) no self.new.seen key answer) }
         ensures note { (result.1.word ≡ H.word) × (result.1.seen ≡ self.new.seen) }
     {
         self.pass.sound();
         match self.shard.quarantine(key, who, mode, shift, now) {
-            Ok(told) => {
+            Ok(answer) => {
                 let has = self.shard.peek(&key).is_some();
-                let short = quarantine_short(&key, who, mode, shift, &told, has);
-                (Ok(told), self.pass.tell(word, &short))
+                let short = quarantine_short(&key, who, mode, shift, &answer, has);
+                (Ok(answer), self.pass.tell(word, &short))
             }
             Err(fault) => (Err(fault), self.pass.note(word)),
         }

@@ -8,11 +8,11 @@ ghost use Rattle.key_shard.specs.Shards.{past_of, is_out, after_raise, stepped};
 ghost use Rattle.log_word.specs.Steps.{IsBeginning};
 ghost use Rattle.bound_hub.specs.Gets.{IsLastStep};
 ghost use Rattle.bound_hub.specs.Olds.{IsRaiseHeld};
-ghost use Rattle.bound_hub.specs.Told.{raise_short, renew_short};
+ghost use Rattle.bound_hub.specs.StepShorts.{raise_short, renew_short};
 
 use crate::bound_shards::{BoundShard, kept_steps};
 use crate::names::BoundName;
-use crate::told::{raise_short, renew_short};
+use crate::step_shorts::{raise_short, renew_short};
 use key_shard::{Grant, Raising, Renewal};
 use lease_table::Mode;
 use log_word::{LogWord, Note, Pass};
@@ -40,7 +40,7 @@ impl<H: BoundName> BoundShard<H> {
         ensures seen { IsBeginning pass.old.seen pass.new.seen }
         ensures here { IsBeginning self.old.seen pass.new.seen }
         ensures last { let shard = self.old.shard in IsTrue (is_out shard grant) → IfOk result
-            (λ told. IsLastStep shard.terms.no (raise_short grant.key grant.sid grant.token told
+            (λ answer. IsLastStep shard.terms.no (raise_short grant.key grant.sid grant.token answer
             (is_some (entry grant.key (past_of self.new.shard)))) pass.new.seen) }
         ensures old { let shard = self.old.shard in IsTrue (is_out shard grant) → IfOk result
             (IsRaiseHeld H.opening (H.before shard.terms.no) shard.terms.no pass.new.seen grant.key) }
@@ -65,7 +65,7 @@ impl<H: BoundName> BoundShard<H> {
         ensures err { OnErr result.0 (self.new.shard ≡ self.old.shard) }
         ensures goes_on { IsBeginning self.old.seen self.new.seen }
         ensures last { let shard = self.old.shard in IsTrue (is_out shard grant) → IfOk result.0
-            (λ told. IsLastStep shard.terms.no (raise_short grant.key grant.sid grant.token told
+            (λ answer. IsLastStep shard.terms.no (raise_short grant.key grant.sid grant.token answer
             (is_some (entry grant.key (past_of self.new.shard)))) self.new.seen) }
         ensures old { let shard = self.old.shard in IsTrue (is_out shard grant) → IfOk result.0
             (IsRaiseHeld H.opening (H.before shard.terms.no) shard.terms.no self.new.seen grant.key) }
@@ -74,16 +74,16 @@ impl<H: BoundName> BoundShard<H> {
         let (key, sid, token) = (grant.key(), grant.sid(), grant.token());
         let kept = kept_steps(&self.shard);
         self.pass.sound();
-        let told = match self.shard.raise(grant) {
-            Ok(told) => told,
+        let answer = match self.shard.raise(grant) {
+            Ok(answer) => answer,
             Err(grant) => return (Err(grant), self.pass.note(word)),
         };
         if kept_steps(&self.shard) == kept {
-            return (Ok(told), self.pass.note(word));
+            return (Ok(answer), self.pass.note(word));
         }
         let has = self.shard.peek(&key).is_some();
-        let short = raise_short(&key, sid, token, &told, has);
-        (Ok(told), self.pass.tell(word, &short))
+        let short = raise_short(&key, sid, token, &answer, has);
+        (Ok(answer), self.pass.tell(word, &short))
     }
 
     /// Gives the quarantine of a grant a new deadline, as the shard does, for a caller with this pass. The
@@ -110,8 +110,8 @@ impl<H: BoundName> BoundShard<H> {
         ensures seen { IsBeginning pass.old.seen pass.new.seen }
         ensures here { IsBeginning self.old.seen pass.new.seen }
         ensures last { let shard = self.old.shard in IsTrue (is_out shard grant.now) → IfOk result
-            (λ told. IsLastStep shard.terms.no (renew_short grant.now.key grant.now.sid
-            grant.now.token told (is_some (entry grant.now.key (past_of self.new.shard))))
+            (λ answer. IsLastStep shard.terms.no (renew_short grant.now.key grant.now.sid
+            grant.now.token answer (is_some (entry grant.now.key (past_of self.new.shard))))
             pass.new.seen) }
     {
         self.join(word, pass.note(word));
@@ -137,23 +137,23 @@ impl<H: BoundName> BoundShard<H> {
         ensures err { OnErr result.0 (self.new.shard ≡ self.old.shard) }
         ensures goes_on { IsBeginning self.old.seen self.new.seen }
         ensures last { let shard = self.old.shard in IsTrue (is_out shard grant.now) → IfOk result.0
-            (λ told. IsLastStep shard.terms.no (renew_short grant.now.key grant.now.sid
-            grant.now.token told (is_some (entry grant.now.key (past_of self.new.shard))))
+            (λ answer. IsLastStep shard.terms.no (renew_short grant.now.key grant.now.sid
+            grant.now.token answer (is_some (entry grant.now.key (past_of self.new.shard))))
             self.new.seen) }
         ensures note { (result.1.word ≡ H.word) × (result.1.seen ≡ self.new.seen) }
     {
         let kept = kept_steps(&self.shard);
         self.pass.sound();
-        let told = match self.shard.renew(grant, now) {
-            Ok(told) => told,
+        let answer = match self.shard.renew(grant, now) {
+            Ok(answer) => answer,
             Err(fault) => return (Err(fault), self.pass.note(word)),
         };
         if kept_steps(&self.shard) == kept {
-            return (Ok(told), self.pass.note(word));
+            return (Ok(answer), self.pass.note(word));
         }
         let key = grant.key();
         let has = self.shard.peek(&key).is_some();
-        let short = renew_short(&key, grant.sid(), grant.token(), &told, has);
-        (Ok(told), self.pass.tell(word, &short))
+        let short = renew_short(&key, grant.sid(), grant.token(), &answer, has);
+        (Ok(answer), self.pass.tell(word, &short))
     }
 }

@@ -8,12 +8,12 @@ ghost use Rattle.key_shard.specs.Shards.{past_of, is_out, returned};
 ghost use Rattle.log_word.specs.Steps.{IsBeginning};
 ghost use Rattle.bound_hub.specs.Gets.{IsLastStep};
 ghost use Rattle.bound_hub.specs.Releases.{MayRelease};
-ghost use Rattle.bound_hub.specs.Told.{release_short, replace_short};
+ghost use Rattle.bound_hub.specs.StepShorts.{release_short, replace_short};
 ghost use Rattle.bound_hub.specs.Writes.{MayPut};
 
 use crate::bound_shards::{BoundShard, kept_steps};
 use crate::names::BoundName;
-use crate::told::{release_short, replace_short};
+use crate::step_shorts::{release_short, replace_short};
 use key_shard::{Back, Grant, How, Rel};
 use lease_table::Mode;
 use log_word::{LogWord, Note, Pass};
@@ -45,9 +45,9 @@ impl<H: BoundName> BoundShard<H> {
             (is_some (entry grant.key (past_of self.new.shard)))) pass.new.seen }
     {
         self.join(word, pass.note(word));
-        let (told, note) = self.make_release(word, grant, how);
+        let (answer, note) = self.make_release(word, grant, how);
         *pass = note.into_pass();
-        told
+        answer
     }
 
     // The release alone, with a note of all that is seen then. It is one load of the word.
@@ -71,13 +71,13 @@ impl<H: BoundName> BoundShard<H> {
         let (key, sid, token) = (grant.key(), grant.sid(), grant.token());
         let kept = kept_steps(&self.shard);
         self.pass.sound();
-        let told = self.shard.release(grant, how);
+        let answer = self.shard.release(grant, how);
         if kept_steps(&self.shard) == kept {
-            return (told, self.pass.note(word));
+            return (answer, self.pass.note(word));
         }
         let has = self.shard.peek(&key).is_some();
-        let short = release_short(&key, sid, token, &how, &told, has);
-        (told, self.pass.tell(word, &short))
+        let short = release_short(&key, sid, token, &how, &answer, has);
+        (answer, self.pass.tell(word, &short))
     }
 
     /// Releases a grant with a new value, as the shard does, for a caller with this pass, which has seen that
@@ -111,8 +111,8 @@ impl<H: BoundName> BoundShard<H> {
         ensures seen { IsBeginning pass.old.seen pass.new.seen }
         ensures here { IsBeginning self.old.seen pass.new.seen }
         ensures last { let shard = self.old.shard in IsTrue (is_out shard grant) → IfOk result
-            (λ told. IsLastStep shard.terms.no (replace_short grant.key grant.sid grant.token stamp
-            told (is_some (entry grant.key (past_of self.new.shard)))) pass.new.seen) }
+            (λ answer. IsLastStep shard.terms.no (replace_short grant.key grant.sid grant.token stamp
+            answer (is_some (entry grant.key (past_of self.new.shard)))) pass.new.seen) }
     {
         self.join(word, pass.note(word));
         let (result, note) = self.make_replace(word, grant, value, stamp);
@@ -143,22 +143,22 @@ impl<H: BoundName> BoundShard<H> {
         ensures err { OnErr result.0 (self.new.shard ≡ self.old.shard) }
         ensures goes_on { IsBeginning self.old.seen self.new.seen }
         ensures last { let shard = self.old.shard in IsTrue (is_out shard grant) → IfOk result.0
-            (λ told. IsLastStep shard.terms.no (replace_short grant.key grant.sid grant.token stamp
-            told (is_some (entry grant.key (past_of self.new.shard)))) self.new.seen) }
+            (λ answer. IsLastStep shard.terms.no (replace_short grant.key grant.sid grant.token stamp
+            answer (is_some (entry grant.key (past_of self.new.shard)))) self.new.seen) }
         ensures note { (result.1.word ≡ H.word) × (result.1.seen ≡ self.new.seen) }
     {
         let (key, sid, token) = (grant.key(), grant.sid(), grant.token());
         let kept = kept_steps(&self.shard);
         self.pass.sound();
-        let told = match self.shard.replace(grant, value, stamp) {
-            Ok(told) => told,
+        let answer = match self.shard.replace(grant, value, stamp) {
+            Ok(answer) => answer,
             Err(back) => return (Err(back), self.pass.note(word)),
         };
         if kept_steps(&self.shard) == kept {
-            return (Ok(told), self.pass.note(word));
+            return (Ok(answer), self.pass.note(word));
         }
         let has = self.shard.peek(&key).is_some();
-        let short = replace_short(&key, sid, token, stamp, &told, has);
-        (Ok(told), self.pass.tell(word, &short))
+        let short = replace_short(&key, sid, token, stamp, &answer, has);
+        (Ok(answer), self.pass.tell(word, &short))
     }
 }

@@ -7,11 +7,11 @@ ghost use Rattle.key_shard.specs.Shards.{past_of, stepped, rolled, refusal, Refu
 ghost use Rattle.log_word.specs.Steps.{IsBeginning};
 ghost use Rattle.bound_hub.specs.Asked.{MaySet};
 ghost use Rattle.bound_hub.specs.Gets.{IsLastStep};
-ghost use Rattle.bound_hub.specs.Told.{set_short};
+ghost use Rattle.bound_hub.specs.StepShorts.{set_short};
 
 use crate::bound_shards::{BoundShard, kept_steps};
 use crate::names::BoundName;
-use crate::told::set_short;
+use crate::step_shorts::set_short;
 use key_shard::{SetAnswer, ShardFault};
 use log_word::{LogWord, Note, Pass};
 use rows_model::{QKey, Value};
@@ -48,8 +48,8 @@ impl<H: BoundName> BoundShard<H> {
         ensures word { pass.new.word ≡ H.word }
         ensures seen { IsBeginning pass.old.seen pass.new.seen }
         ensures here { IsBeginning self.old.seen pass.new.seen }
-        ensures last { IfOk result (λ told. IsLastStep self.old.shard.terms.no
-            (set_short key token stamp told (is_some (entry key (past_of self.new.shard))))
+        ensures last { IfOk result (λ answer. IsLastStep self.old.shard.terms.no
+            (set_short key token stamp answer (is_some (entry key (past_of self.new.shard))))
             pass.new.seen) }
     {
         self.join(word, pass.note(word));
@@ -82,18 +82,18 @@ impl<H: BoundName> BoundShard<H> {
             IfOk result.0 (ShowsSet step) }
         ensures err { OnErr result.0 (self.new.shard ≡ self.old.shard) }
         ensures goes_on { IsBeginning self.old.seen self.new.seen }
-        ensures last { IfOk result.0 (λ told. IsLastStep self.old.shard.terms.no
-            (set_short key token stamp told (is_some (entry key (past_of self.new.shard))))
+        ensures last { IfOk result.0 (λ answer. IsLastStep self.old.shard.terms.no
+            (set_short key token stamp answer (is_some (entry key (past_of self.new.shard))))
             self.new.seen) }
         ensures note { (result.1.word ≡ H.word) × (result.1.seen ≡ self.new.seen) }
     {
         let _kept = kept_steps(&self.shard);
         self.pass.sound();
         match self.shard.set(key, token, value, stamp, now) {
-            Ok(told) => {
+            Ok(answer) => {
                 let has = self.shard.peek(&key).is_some();
-                let short = set_short(&key, token, stamp, &told, has);
-                (Ok(told), self.pass.tell(word, &short))
+                let short = set_short(&key, token, stamp, &answer, has);
+                (Ok(answer), self.pass.tell(word, &short))
             }
             Err(fault) => (Err(fault), self.pass.note(word)),
         }

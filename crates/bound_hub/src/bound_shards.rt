@@ -168,16 +168,16 @@ impl<H: BoundName> BoundShard<H> {
         requires home { IsAtHome self.old.shard.terms key }
         ensures step { (now : ℕ) → let shard = self.old.shard in
             let step = get_step shard.terms (past_of shard) key who floor now in
-            IfSome result (λ told. self.new.shard ≡ stepped (rolled shard) step) }
+            IfSome result (λ its_got. self.new.shard ≡ stepped (rolled shard) step) }
         ensures shows { (now : ℕ) → let shard = self.old.shard in
             let step = get_step shard.terms (past_of shard) key who floor now in
-            IfSome result (λ told. ShowsGot step told.0) }
-        ensures seen { IfSome result (λ told. self.new.seen ≡ with_step self.old.shard.terms.no
-            (got_short key who told.0 (is_some (entry key (past_of self.new.shard)))) self.old.seen) }
-        ensures note { IfSome result (λ told.
-            (told.1.word ≡ H.word) × (told.1.seen ≡ self.new.seen)) }
-        ensures held { IfSome result (λ told. let no = self.old.shard.terms.no in
-            IsGotHeld H.opening (H.before no) no self.new.seen key told.0) }
+            IfSome result (λ its_got. ShowsGot step its_got.0) }
+        ensures seen { IfSome result (λ its_got. self.new.seen ≡ with_step self.old.shard.terms.no
+            (got_short key who its_got.0 (is_some (entry key (past_of self.new.shard)))) self.old.seen) }
+        ensures note { IfSome result (λ its_got.
+            (its_got.1.word ≡ H.word) × (its_got.1.seen ≡ self.new.seen)) }
+        ensures held { IfSome result (λ its_got. let no = self.old.shard.terms.no in
+            IsGotHeld H.opening (H.before no) no self.new.seen key its_got.0) }
         ensures none { IfNone result (self.new ≡ self.old) }
     {
         self.pass.sound();
@@ -211,13 +211,13 @@ impl<H: BoundName> BoundShard<H> {
             OnOk result (self.new.shard ≡ stepped (rolled shard) step) }
         ensures shows { let shard = self.old.shard in
             let step = get_step shard.terms (past_of shard) key who floor now in
-            IfOk result (λ told. ShowsGot step told.0) }
-        ensures seen { IfOk result (λ told. self.new.seen ≡ with_step self.old.shard.terms.no
-            (got_short key who told.0 (is_some (entry key (past_of self.new.shard)))) self.old.seen) }
-        ensures note { IfOk result (λ told.
-            (told.1.word ≡ H.word) × (told.1.seen ≡ self.new.seen)) }
-        ensures held { IfOk result (λ told. let no = self.old.shard.terms.no in
-            IsGotHeld H.opening (H.before no) no self.new.seen key told.0) }
+            IfOk result (λ its_got. ShowsGot step its_got.0) }
+        ensures seen { IfOk result (λ its_got. self.new.seen ≡ with_step self.old.shard.terms.no
+            (got_short key who its_got.0 (is_some (entry key (past_of self.new.shard)))) self.old.seen) }
+        ensures note { IfOk result (λ its_got.
+            (its_got.1.word ≡ H.word) × (its_got.1.seen ≡ self.new.seen)) }
+        ensures held { IfOk result (λ its_got. let no = self.old.shard.terms.no in
+            IsGotHeld H.opening (H.before no) no self.new.seen key its_got.0) }
         ensures err { OnErr result (self.new ≡ self.old) }
     {
         self.pass.sound();

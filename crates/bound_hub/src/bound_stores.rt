@@ -42,7 +42,7 @@ impl<K: Keeper, H: BoundName> Model for BoundStore<K, H> {
 
     ghost view = { λ bound. record { store = bound.store; seen = bound.pass.seen } };
 
-    ghost invariant = { λ bound. IsNamedStore H.opening H.cap H.told H.start bound.store
+    ghost invariant = { λ bound. IsNamedStore H.opening H.cap H.known_rows H.start bound.store
         × IsBoundStore H.word H.begun H.failed bound.store bound.pass
         × IsTrueSoFar H.opening bound.pass.seen };
 }
@@ -52,11 +52,11 @@ impl<K: Keeper, H: BoundName> BoundStore<K, H> {
     /// its rows.
     pub fn new(word: &LogWord, store: Store<K, StartOf<H>>, pass: StorePass) -> BoundStore<K, H>
         requires word { word.now ≡ H.word }
-        requires named { IsNamedStore H.opening H.cap H.told H.start store }
+        requires named { IsNamedStore H.opening H.cap H.known_rows H.start store }
         requires new { IsNewStore H.begun H.failed store }
         requires pass { pass ≡ blind_pass H.word }
         ensures store { result.store ≡ store }
-        ensures only { HasSeenOnly (is_none store.told) result.seen }
+        ensures only { HasSeenOnly (is_none store.known_rows) result.seen }
     {
         let mut pass = pass;
         let _fit = store.opening().members();
@@ -161,7 +161,7 @@ pub(crate) fn hear<K: Keeper, H: BoundName>(
     requires word { word.now ≡ H.word }
     requires pass { pass.old.word ≡ H.word }
     ensures word { pass.new.word ≡ pass.old.word }
-    ensures seen { pass.new.seen ≡ with_keeper_call failed (is_none store.now.told) pass.old.seen }
+    ensures seen { pass.new.seen ≡ with_keeper_call failed (is_none store.now.known_rows) pass.old.seen }
 {
     if failed {
         pass.fail(word);

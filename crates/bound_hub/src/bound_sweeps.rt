@@ -4,18 +4,18 @@ ghost use Rattle.lease_table.specs.Expiry.{NoneDue, NoneDueBefore, StandsDue};
 ghost use Rattle.key_shard.specs.Answers.{sweep_step};
 ghost use Rattle.key_shard.specs.Dues.{first_due};
 ghost use Rattle.key_shard.specs.Past.{entry, quar_of, standing};
-ghost use Rattle.key_shard.specs.Replies.{sweep_told};
+ghost use Rattle.key_shard.specs.Replies.{sweep_answer};
 ghost use Rattle.key_shard.specs.Shards.{past_of, swept};
 ghost use Rattle.key_shard.specs.Answers.{IsAtHome};
 ghost use Rattle.log_word.specs.Events.{is_over};
 ghost use Rattle.log_word.specs.Steps.{IsBeginning};
 ghost use Rattle.bound_hub.specs.Gets.{IsLastStep};
 ghost use Rattle.bound_hub.specs.Sweeps.{HasSeenGrant};
-ghost use Rattle.bound_hub.specs.Told.{release_short};
+ghost use Rattle.bound_hub.specs.StepShorts.{release_short};
 
 use crate::bound_shards::{BoundShard, kept_steps};
 use crate::names::BoundName;
-use crate::told::release_short;
+use crate::step_shorts::release_short;
 use key_shard::{How, Rel};
 use lease_table::Due;
 use log_word::{LogWord, Note, Pass};
@@ -72,7 +72,7 @@ impl<H: BoundName> BoundShard<H> {
         requires over { is_over sid.number pass.old.seen.events ≡ true }
         ensures step { let shard = self.old.shard in
             self.new.shard ≡ swept shard (sweep_step (past_of shard) key token) }
-        ensures told { result ≡ sweep_told (sweep_step (past_of self.old.shard) key token) }
+        ensures told { result ≡ sweep_answer (sweep_step (past_of self.old.shard) key token) }
         ensures ended { quar_of key token (past_of self.new.shard) ≡ None }
         ensures dropped { result ≢ Rel.Gone → entry key (past_of self.new.shard) ≡ None }
         ensures word { pass.new.word ≡ H.word }
@@ -82,9 +82,9 @@ impl<H: BoundName> BoundShard<H> {
             (release_short key sid token How.Drop result false) pass.new.seen }
     {
         self.join(word, pass.note(word));
-        let (told, note) = self.make_sweep(word, key, sid, token);
+        let (answer, note) = self.make_sweep(word, key, sid, token);
         *pass = note.into_pass();
-        told
+        answer
     }
 
     // The drop alone, with a note of all that is seen then. It is one load of the word.
@@ -96,7 +96,7 @@ impl<H: BoundName> BoundShard<H> {
         requires over { is_over sid.number self.old.seen.events ≡ true }
         ensures step { let shard = self.old.shard in
             self.new.shard ≡ swept shard (sweep_step (past_of shard) key token) }
-        ensures told { result.0 ≡ sweep_told (sweep_step (past_of self.old.shard) key token) }
+        ensures told { result.0 ≡ sweep_answer (sweep_step (past_of self.old.shard) key token) }
         ensures ended { quar_of key token (past_of self.new.shard) ≡ None }
         ensures dropped { result.0 ≢ Rel.Gone → entry key (past_of self.new.shard) ≡ None }
         ensures goes_on { IsBeginning self.old.seen self.new.seen }
@@ -106,12 +106,12 @@ impl<H: BoundName> BoundShard<H> {
     {
         let _kept = kept_steps(&self.shard);
         self.pass.sound();
-        let told = self.shard.sweep_drop(key, token);
-        match told {
-            Rel::Gone => (told, self.pass.note(word)),
+        let answer = self.shard.sweep_drop(key, token);
+        match answer {
+            Rel::Gone => (answer, self.pass.note(word)),
             Rel::Released { .. } => {
-                let short = release_short(&key, sid, token, &How::Drop, &told, false);
-                (told, self.pass.tell(word, &short))
+                let short = release_short(&key, sid, token, &How::Drop, &answer, false);
+                (answer, self.pass.tell(word, &short))
             }
         }
     }

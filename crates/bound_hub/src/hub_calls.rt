@@ -28,6 +28,9 @@ use sql_keeper::{AfterFault, Answer, Closed, CommitFault, KeepFault, Keeper};
 use std::sync::atomic::Ordering;
 use std::sync::{MutexGuard, Wait};
 
+/// How often a worker looks again for a lock that another has, before it sleeps.
+const LOOKS: u32 = 1_024;
+
 impl<K: Keeper, H: BoundName> BoundHub<K, H> {
     /// Begins a session by this worker's desk. Its Begin is the last event that the caller has seen then.
     pub fn begin<R: Wait>(
@@ -179,7 +182,7 @@ impl<K: Keeper, H: BoundName> BoundHub<K, H> {
 
     /// The lock of the store.
     pub fn lock_store<R: Wait>(&self, rt: &R) -> MutexGuard<'_, BoundStore<K, H>> {
-        locked_soon(rt, &self.store)
+        locked_soon(rt, &self.store, LOOKS)
     }
 
     /// The lock of the shard of this number. No type says that this lock has it: where another shard lies
@@ -189,7 +192,7 @@ impl<K: Keeper, H: BoundName> BoundHub<K, H> {
         ensures number { (mutex_guard_value result).shard.terms.no ≡ place }
         ensures named { IsNamed H.terms (mutex_guard_value result).shard }
     {
-        let bound = locked_soon(rt, &self.shards[place as usize]);
+        let bound = locked_soon(rt, &self.shards[place as usize], LOOKS);
         if bound.no() != place {
             wait_for_ever(rt);
         }

@@ -30,7 +30,7 @@ impl<K: Keeper, H: BoundName> BoundHub<K, H> {
     /// of which the commits are the log, and of which no shard made other steps first.
     pub fn into_parts(self, passes: Vec<Pass>) -> (Store<K, StartOf<H>>, Vec<Shard>)
         requires { All (λ pass. pass.word ≡ H.word) passes.items }
-        ensures store { IsNamedStore H.opening H.cap H.told H.start result.0 }
+        ensures store { IsNamedStore H.opening H.cap H.known_rows H.start result.0 }
         ensures as_many { length result.1.items ≡ self }
         ensures all { AreAll H.terms result.1.items }
         ensures legal { AreLegal result.1.items }
@@ -93,7 +93,7 @@ impl<K: Keeper, H: BoundName> BoundStore<K, H> {
     /// The store alone.
     pub(crate) fn into_store(self) -> Store<K, StartOf<H>>
         ensures same { result ≡ self.store }
-        ensures named { IsNamedStore H.opening H.cap H.told H.start result }
+        ensures named { IsNamedStore H.opening H.cap H.known_rows H.start result }
     {
         let BoundStore { store, pass: _ } = self;
         store

@@ -67,10 +67,10 @@ impl<K: Keeper, H: BoundName> BoundHub<K, H> {
         ledger: Blank,
         made: (LogWord, StorePass, Vec<ShardPass>, Pass),
     ) -> Result<(BoundHub<K, H>, Pass), (Store<K, StartOf<H>>, Vec<Shard>)>
-        requires store { IsNamedStore H.opening H.cap H.told H.start store }
+        requires store { IsNamedStore H.opening H.cap H.known_rows H.start store }
         requires new_store { IsNewStore H.begun H.failed store }
         requires shards { AreAll H.terms shards.items }
-        requires new_shards { All (IsNewShard H.opening H.before (is_none store.told)) shards.items }
+        requires new_shards { All (IsNewShard H.opening H.before (is_none store.known_rows)) shards.items }
         requires few { length shards.items ≤ 64 }
         requires ledger { (ledger.name ≡ H.name) × (ledger.parts ≡ H.parts) }
         requires one_each { ledger.parts ≡ length shards.items }
@@ -81,7 +81,7 @@ impl<K: Keeper, H: BoundName> BoundHub<K, H> {
         requires caller { made.3 ≡ blind_pass H.word }
         ensures { MatchResult result
             (λ made. (made.0 ≡ length shards.items) × (made.1.word ≡ H.word)
-            × HasSeenOnly (is_none store.told) made.1.seen)
+            × HasSeenOnly (is_none store.known_rows) made.1.seen)
             (λ back. (back.0 ≡ store) × (back.1.items ≡ shards.items)) }
     {
         let Ok(locks) = Vec::with_capacity(alloc, shards.len()) else {
@@ -93,7 +93,7 @@ impl<K: Keeper, H: BoundName> BoundHub<K, H> {
         let (word, store_pass, passes, caller) = made;
         let count = shards.len() as u32;
         let mut store = BoundStore::new(&word, store, store_pass);
-        let mut caller = told(&word, caller, store.note(&word));
+        let mut caller = noted(&word, caller, store.note(&word));
         let (locks, room, tokens) = locked(locks, shards, passes, ledger, &word, &mut caller);
         let hub = BoundHub {
             word,
@@ -142,7 +142,7 @@ fn dues_of(alloc: Global, shards: &[Shard]) -> Result<Vec<AtomicU64>, AllocError
 }
 
 /// The pass of a caller once it has joined the first note.
-fn told(word: &LogWord, pass: Pass, note: Note) -> Pass
+fn noted(word: &LogWord, pass: Pass, note: Note) -> Pass
     requires word { pass.word ≡ word.now }
     requires blind { pass.seen ≡ nothing_seen }
     requires note { note.word ≡ word.now }
@@ -156,7 +156,7 @@ fn told(word: &LogWord, pass: Pass, note: Note) -> Pass
 }
 
 /// The pass of a shard once it has joined the first note.
-fn shard_told(word: &LogWord, pass: ShardPass, note: Note) -> ShardPass
+fn shard_noted(word: &LogWord, pass: ShardPass, note: Note) -> ShardPass
     requires word { pass.word ≡ word.now }
     requires blind { pass.seen ≡ nothing_seen }
     requires note { note.word ≡ word.now }
@@ -208,7 +208,7 @@ fn locked<H: BoundName>(
             unreachable!()
         };
         let token = token_of(&mut book, &mut rest, shards.len() as u32);
-        let pass = shard_told(word, pass, caller.note(word));
+        let pass = shard_noted(word, pass, caller.note(word));
         locks.push_reserved(Mutex::new(BoundShard::new(shard, token, pass)));
     }
     locks.reverse();

@@ -23,5 +23,5 @@ pub mod hubs;
 pub mod laws;
 pub mod names;
 pub mod shorts;
+pub mod step_shorts;
 pub mod store_calls;
-pub mod told;

@@ -12,7 +12,7 @@ use Rattle.key_shard.specs.declared.steps.Ended.TheVariants as ended
 use Rattle.key_shard.specs.declared.steps.Step.{Step}
 use Rattle.key_shard.specs.declared.steps.Step.TheVariants as step
 use Rattle.session_client.specs.Belongs.{Belongs}
-use Rattle.session_client.specs.declared.replies.Reply.TheVariants as reply
+use Rattle.session_client.specs.declared.replies.Reply.TheVariants as Reply
 use Rattle.session_client.specs.declared.replies.Wanted.TheVariants as wanted
 use Rattle.sql_keeper.specs.Fresh as fresh
 use Rattle.log_word.specs.declared.events.Short.{Short}
@@ -65,8 +65,8 @@ still_among p old new start is =
     ap (λ (l : List Short). list_any p l) start.1 ∙ list_any-append p start.0 old ∙ right_one (list_any p start.0) (list_any p old) is
 
 pub served_fresh : (opening : Tables) (before : ℕ → List Step) (shards : ℕ) (who : Sid) (key : QKey) (floor : ℕ) (old new : Seen) (value : List ℕ) (stamp : ℕ)
-    → Belongs who (wanted.Get key floor) (reply.Got (got.Hit value stamp)) → IsBeginning old new
-    → ShowsReply opening before shards who (wanted.Get key floor) (reply.Got (got.Hit value stamp)) new
+    → Belongs who (wanted.Get key floor) (Reply.Got (got.Hit value stamp)) → IsBeginning old new
+    → ShowsReply opening before shards who (wanted.Get key floor) (Reply.Got (got.Hit value stamp)) new
     → IsServedFresh opening shards old new key floor value stamp
 served_fresh opening before shards who key floor old new value stamp belongs begins shows = record {
   floor_met = belongs;

@@ -54,36 +54,36 @@ session-turn shape world who said (wanted.Apply grant stamp) = refl
 session-turn shape world who said (wanted.Abort grant) = refl
 session-turn shape world who said wanted.Nothing = refl
 
-sweep-home : (shape : Shape) (world : World) (request : SweepWanted) (home : ℕ) (key : QKey) (token : ℕ) (made : Option Step) (told : SweepReply)
-    → sweep_of shape world request ≡ Swept home (sweep.Drop key token) made told → shard_of key shape.shards ≡ home
-sweep-home shape world (sweep.Scan place) home key token made told e = absurd cc
-sweep-home shape world (sweep.End who) home key token made told e = absurd cc
-sweep-home shape world (sweep.Drop on gone) home key token made told e =
+sweep-home : (shape : Shape) (world : World) (request : SweepWanted) (home : ℕ) (key : QKey) (token : ℕ) (made : Option Step) (reply : SweepReply)
+    → sweep_of shape world request ≡ Swept home (sweep.Drop key token) made reply → shard_of key shape.shards ≡ home
+sweep-home shape world (sweep.Scan place) home key token made reply e = absurd cc
+sweep-home shape world (sweep.End who) home key token made reply e = absurd cc
+sweep-home shape world (sweep.Drop on gone) home key token made reply e =
     let same : on ≡ key = cc in
     let at : shard_of on shape.shards ≡ home = cc in
     subst (λ (k : QKey). shard_of k shape.shards ≡ home) same at
 
-turn-home : (shape : Shape) (world : World) (t : Turn) (said : Said) (home : ℕ) (key : QKey) (token : ℕ) (made : Option Step) (told : SweepReply)
-    → turn_event shape world t said ≡ Swept home (sweep.Drop key token) made told → shard_of key shape.shards ≡ home
-turn-home shape world (turn.Session who) said home key token made told e =
-    absurd (no-told (sym (session-turn shape world who said (wanted_of world who)) ∙ ap swept_in e))
+turn-home : (shape : Shape) (world : World) (t : Turn) (said : Said) (home : ℕ) (key : QKey) (token : ℕ) (made : Option Step) (reply : SweepReply)
+    → turn_event shape world t said ≡ Swept home (sweep.Drop key token) made reply → shard_of key shape.shards ≡ home
+turn-home shape world (turn.Session who) said home key token made reply e =
+    absurd (no-reply (sym (session-turn shape world who said (wanted_of world who)) ∙ ap swept_in e))
   where
-    no-told : [] ≡ told ∷ [] → ⊥
-    no-told e = cc
-turn-home shape world (turn.Tick by) said home key token made told e = absurd cc
-turn-home shape world turn.Sweep said home key token made told e = sweep-home shape world (swept_next shape world) home key token made told e
+    no-reply : [] ≡ reply ∷ [] → ⊥
+    no-reply e = cc
+turn-home shape world (turn.Tick by) said home key token made reply e = absurd cc
+turn-home shape world turn.Sweep said home key token made reply e = sweep-home shape world (swept_next shape world) home key token made reply e
 
-drop-home : (shape : Shape) (moves : List Move) (before after : List Event) (home : ℕ) (key : QKey) (token : ℕ) (made : Option Step) (told : SweepReply)
-    → past_of shape moves ≡ after ++ Swept home (sweep.Drop key token) made told ∷ before → shard_of key shape.shards ≡ home
-drop-home shape [] before [] home key token made told e = absurd cc
-drop-home shape [] before (event ∷ after) home key token made told e = absurd cc
-drop-home shape (Begin plan ∷ moves) before after home key token made told e = drop-home shape moves before after home key token made told e
-drop-home shape (Take t said ∷ moves) before [] home key token made told e =
-    let first : turn_event shape (world_of shape moves) t said ≡ Swept home (sweep.Drop key token) made told = cc in
-    turn-home shape (world_of shape moves) t said home key token made told first
-drop-home shape (Take t said ∷ moves) before (event ∷ after) home key token made told e =
-    let rest : past_of shape moves ≡ after ++ Swept home (sweep.Drop key token) made told ∷ before = cc in
-    drop-home shape moves before after home key token made told rest
+drop-home : (shape : Shape) (moves : List Move) (before after : List Event) (home : ℕ) (key : QKey) (token : ℕ) (made : Option Step) (reply : SweepReply)
+    → past_of shape moves ≡ after ++ Swept home (sweep.Drop key token) made reply ∷ before → shard_of key shape.shards ≡ home
+drop-home shape [] before [] home key token made reply e = absurd cc
+drop-home shape [] before (event ∷ after) home key token made reply e = absurd cc
+drop-home shape (Begin plan ∷ moves) before after home key token made reply e = drop-home shape moves before after home key token made reply e
+drop-home shape (Take t said ∷ moves) before [] home key token made reply e =
+    let first : turn_event shape (world_of shape moves) t said ≡ Swept home (sweep.Drop key token) made reply = cc in
+    turn-home shape (world_of shape moves) t said home key token made reply first
+drop-home shape (Take t said ∷ moves) before (event ∷ after) home key token made reply e =
+    let rest : past_of shape moves ≡ after ++ Swept home (sweep.Drop key token) made reply ∷ before = cc in
+    drop-home shape moves before after home key token made reply rest
 
 -- ---- the history around a drop
 
@@ -97,23 +97,23 @@ history-at shape past place history is =
     ∙ get_or-map-range_with_len (λ place. reverse (steps_of place past)) 0 shape.shards place place [] within (omega arith)
 
 -- the steps of a shard around one of its own
-steps-around : (home : ℕ) (before after : List Event) (request : SweepWanted) (s : Step) (told : SweepReply)
-    → steps_of home (after ++ Swept home request (Some s) told ∷ before) ≡ steps_of home after ++ s ∷ steps_of home before
-steps-around home before after request s told =
-    flat_map-append (steps_in home) after (Swept home request (Some s) told ∷ before)
+steps-around : (home : ℕ) (before after : List Event) (request : SweepWanted) (s : Step) (reply : SweepReply)
+    → steps_of home (after ++ Swept home request (Some s) reply ∷ before) ≡ steps_of home after ++ s ∷ steps_of home before
+steps-around home before after request s reply =
+    flat_map-append (steps_in home) after (Swept home request (Some s) reply ∷ before)
     ∙ ap (λ (b : Bool). steps_of home after ++ ((if b then s ∷ [] else []) ++ steps_of home before)) (eq-eqb home home refl)
 
 -- the drops of a run are final
 drops-final : SweepsAreFinal → (shape : Shape) (moves : List Move) (log : List Commit) (histories : List (List Step))
     → log ≡ log_of (past_of shape moves) → histories ≡ histories_of shape (past_of shape moves) → DropsAreFinal (past_of shape moves) log histories
-drops-final law shape moves log histories log_is are before after home key token s told history is at =
+drops-final law shape moves log histories log_is are before after home key token s reply history is at =
     let past = past_of shape moves in
-    let final = law shape moves before after home key token s told is in
-    let here : shard_of key shape.shards ≡ home = drop-home shape moves before after home key token (Some s) told is in
+    let final = law shape moves before after home key token s reply is in
+    let here : shard_of key shape.shards ≡ home = drop-home shape moves before after home key token (Some s) reply is in
     let whole : history ≡ reverse (steps_of home past) =
     history-at shape past home history (subst (λ (hs : List (List Step)). slice_get hs home ≡ Some history) are at) in
     let around : steps_of home past ≡ steps_of home after ++ s ∷ steps_of home before =
-    ap (steps_of home) is ∙ steps-around home before after (sweep.Drop key token) s told in
+    ap (steps_of home) is ∙ steps-around home before after (sweep.Drop key token) s reply in
     let back : reverse history ≡ steps_of home past = ap reverse whole ∙ reverse-reverse (steps_of home past) in
     record {
       sid = final.sid;

@@ -64,7 +64,7 @@ part-begins : TextsTellScripts → RunsGoOn → (held held' : Held) (before afte
     → held.place ≡ place.Fresh → held'.place ≡ place.Fresh → IsSome after.rows → IsSome after'.rows → IsSome before.left → before'.left ≡ before.left
     → before.taken ≡ Some [] → before'.taken ≡ Some [] → before'.keeps_failed < 2 ^ 64 - 1 → after'.keeps_failed ≡ before'.keeps_failed
     → IsBeginning after'.taken after.taken
-part-begins texts law held held' before after before' after' left left' written written' h h' new new' some some' told same none none' below kept =
+part-begins texts law held held' before after before' after' left left' written written' h h' new new' some some' known same none none' below kept =
     by h'.part.first
   where
     rows : (r : Tables) × (after.rows ≡ Some r)
@@ -74,7 +74,7 @@ part-begins texts law held held' before after before' after' left left' written 
     rows' = some-at after'.rows some'
 
     one : AreOfOne h.shape h'.shape h.acts h'.acts h.opening h'.opening
-    one = of-one texts held held' before after before' after' left left' h.begun h'.begun rows.0 rows'.0 new new' rows.1 rows'.1 told same
+    one = of-one texts held held' before after before' after' left left' h.begun h'.begun rows.0 rows'.0 new new' rows.1 rows'.1 known same
 
     at : past_of h'.shape h'.moves ≡ past_of h.shape h'.moves
     at = ap (λ (s : Shape). past_of s h'.moves) (sym one.shapes)
@@ -84,7 +84,7 @@ part-begins texts law held held' before after before' after' left left' written 
         subst (λ (o : Tables). IsTruePast o (past_of h.shape h'.moves)) one.openings (subst (IsTruePast h'.opening) at (h'.keeps.truth rows'.0 rows'.1))
 
     turns : fault_turns (past_of h.shape h'.moves) ≡ []
-    turns = ap fault_turns (sym at) ∙ none-failed h'.shape h'.moves before'.keeps_failed after'.keeps_failed h'.told.few kept below
+    turns = ap fault_turns (sym at) ∙ none-failed h'.shape h'.moves before'.keeps_failed after'.keeps_failed h'.failures_are.few kept below
 
     begun : (rest : List ℕ) → out h.shape h.moves ≡ h'.printed ++ rest → IsBeginning after'.taken after.taken
     begun rest is = record {
@@ -121,7 +121,7 @@ pub beginning : TextsTellScripts → RunsAreDetermined → RunsGoOn
     → held.place ≡ place.Fresh → held'.place ≡ place.Fresh → (IsSome left.opening → IsSome after.rows) → (IsSome left'.opening → IsSome after'.rows)
     → IsSome before.left → before'.left ≡ before.left → before.taken ≡ Some [] → before'.taken ≡ Some [] → one ≡ status.Done
     → before'.keeps_failed < 2 ^ 64 - 1 → after'.keeps_failed ≡ before'.keeps_failed → IsBeginning after'.taken after.taken
-beginning texts law going one two held held' before after before' after' left left' written written' h h' new new' starts starts' told same none none'
+beginning texts law going one two held held' before after before' after' left left' written written' h h' new new' starts starts' known same none none'
     done below kept =
     by two h'
   where
@@ -144,12 +144,12 @@ beginning texts law going one two held held' before after before' after' left le
 
     part : IsCutOff held' before' after' left' written' → IsBeginning after'.taken after.taken
     part k = part-begins texts going held held' before after before' after' left left' written written' whole k new new'
-        (starts (began left.opening whole.opening whole.opening_is)) (starts' (began left'.opening k.opening k.opening_is)) told same none none' below kept
+        (starts (began left.opening whole.opening whole.opening_is)) (starts' (began left'.opening k.opening k.opening_is)) known same none none' below kept
 
     by : (s : Status) → Ended s held' before' after' left' written' → IsBeginning after'.taken after.taken
     by status.Done k =
         let alike = two-alike texts law one status.Done held held' before after before' after' left left' written written' h k new new' starts starts'
-        told same none none' done refl in
+        known same none none' done refl in
         let bytes = gained before.taken after.taken all none whole.prints.gains in
         record { printed = all; more = []; part_is = alike.bytes ∙ bytes; whole_is = bytes ∙ ap Some (sym (append-nil all)) }
     by status.Usage k = nothing k.1

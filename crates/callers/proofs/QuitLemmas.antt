@@ -29,7 +29,7 @@ use Rattle.session_client.specs.declared.plans.Plan.{Plan}
 use Rattle.session_client.specs.declared.plans.Plan.TheVariants.{Quit}
 use Rattle.session_client.specs.declared.replies.Fault.{Fault}
 use Rattle.session_client.specs.declared.replies.Reply.{Reply}
-use Rattle.session_client.specs.declared.replies.Reply.TheVariants as reply
+use Rattle.session_client.specs.declared.replies.Reply.TheVariants as Reply
 use Rattle.session_client.specs.declared.replies.Wanted.{Wanted}
 use Rattle.session_client.specs.declared.replies.Wanted.TheVariants as wanted
 use Rattle.session_client.specs.declared.sessions.Session.{Session}
@@ -53,34 +53,34 @@ IsAsking other = ⊥
 
 -- The replies to a request of one that gives up.
 MayCome : Reply → Type 0
-MayCome (reply.Quar told) = Unit {0}
-MayCome (reply.End was) = Unit {0}
-MayCome (reply.Rel told) = Unit {0}
-MayCome (reply.Fault fault) = Unit {0}
-MayCome reply.Nothing = Unit {0}
+MayCome (Reply.Quar answer) = Unit {0}
+MayCome (Reply.End was) = Unit {0}
+MayCome (Reply.Rel answer) = Unit {0}
+MayCome (Reply.Fault fault) = Unit {0}
+MayCome Reply.Nothing = Unit {0}
 MayCome other = ⊥
 
-may-come : (who : Sid) (request : Wanted) (told : Reply) → IsGivingUp request → Belongs who request told → MayCome told
+may-come : (who : Sid) (request : Wanted) (reply : Reply) → IsGivingUp request → Belongs who request reply → MayCome reply
 unfolding MayCome
-may-come who (wanted.QaReg key) (reply.Quar answer) up b = tt
-may-come who (wanted.QaReg key) (reply.Fault fault) up b = tt
+may-come who (wanted.QaReg key) (Reply.Quar answer) up b = tt
+may-come who (wanted.QaReg key) (Reply.Fault fault) up b = tt
 may-come who (wanted.QaReg key) other up b = absurd b
-may-come who (wanted.QaRead key) (reply.Quar answer) up b = tt
-may-come who (wanted.QaRead key) (reply.Fault fault) up b = tt
+may-come who (wanted.QaRead key) (Reply.Quar answer) up b = tt
+may-come who (wanted.QaRead key) (Reply.Fault fault) up b = tt
 may-come who (wanted.QaRead key) other up b = absurd b
-may-come who (wanted.Delta key by) (reply.Quar answer) up b = tt
-may-come who (wanted.Delta key by) (reply.Fault fault) up b = tt
+may-come who (wanted.Delta key by) (Reply.Quar answer) up b = tt
+may-come who (wanted.Delta key by) (Reply.Fault fault) up b = tt
 may-come who (wanted.Delta key by) other up b = absurd b
-may-come who wanted.End (reply.End was) up b = tt
+may-come who wanted.End (Reply.End was) up b = tt
 may-come who wanted.End other up b = absurd b
-may-come who (wanted.Abort grant) (reply.Rel answer) up b = tt
+may-come who (wanted.Abort grant) (Reply.Rel answer) up b = tt
 may-come who (wanted.Abort grant) other up b = absurd b
-may-come who wanted.Nothing reply.Nothing up b = tt
+may-come who wanted.Nothing Reply.Nothing up b = tt
 may-come who wanted.Nothing other up b = absurd b
-may-come who request told up b = absurd up
+may-come who request reply up b = absurd up
 
 -- a fault belongs to a quarantine
-faulted : (who : Sid) (request : Wanted) (fault : Fault) → IsGivingUp request → Belongs who request (reply.Fault fault) → IsAsking request
+faulted : (who : Sid) (request : Wanted) (fault : Fault) → IsGivingUp request → Belongs who request (Reply.Fault fault) → IsAsking request
 unfolding IsAsking
 faulted who (wanted.QaReg key) fault up b = tt
 faulted who (wanted.QaRead key) fault up b = tt
@@ -146,73 +146,73 @@ no-renewal m txn heard None ask = ask
 asking : (m : Mode) (txn : List Change) (heard : List Reply) → IsAsking (wants (Quit m txn) false heard) → has_all (writing_of (Quit m txn)) heard ≡ false
 unfolding IsAsking
 asking m txn [] ask = asked-next m txn [] (slice_get (footprint txn) (count_by is_had [])) refl ask
-asking m txn (reply.Quar (quarantine.Granted grant old) ∷ heard) ask =
-    let all = reply.Quar (quarantine.Granted grant old) ∷ heard in
+asking m txn (Reply.Quar (quarantine.Granted grant old) ∷ heard) ask =
+    let all = Reply.Quar (quarantine.Granted grant old) ∷ heard in
     asked-next m txn all (slice_get (footprint txn) (count_by is_had all)) refl ask
-asking m txn (reply.Quar quarantine.Held ∷ heard) ask =
-    let all = reply.Quar quarantine.Held ∷ heard in
+asking m txn (Reply.Quar quarantine.Held ∷ heard) ask =
+    let all = Reply.Quar quarantine.Held ∷ heard in
     asked-next m txn all (slice_get (footprint txn) (count_by is_had all)) refl ask
-asking m txn (reply.Quar (quarantine.Refused holder held) ∷ heard) ask = absurd ask
-asking m txn (reply.Fault fault ∷ heard) ask = absurd (no-fault (has_all (writing_of (Quit m txn)) heard) m txn heard ask)
-asking m txn (reply.Got found ∷ heard) ask = absurd ask
-asking m txn (reply.Staged value changes ∷ heard) ask = absurd ask
-asking m txn (reply.NotStaged fault changes ∷ heard) ask = absurd ask
-asking m txn (reply.NotCommitted fault changes grants ∷ heard) ask = absurd ask
-asking m txn (reply.Raise told ∷ heard) ask =
-    let all = reply.Raise told ∷ heard in
+asking m txn (Reply.Quar (quarantine.Refused holder held) ∷ heard) ask = absurd ask
+asking m txn (Reply.Fault fault ∷ heard) ask = absurd (no-fault (has_all (writing_of (Quit m txn)) heard) m txn heard ask)
+asking m txn (Reply.Got found ∷ heard) ask = absurd ask
+asking m txn (Reply.Staged value changes ∷ heard) ask = absurd ask
+asking m txn (Reply.NotStaged fault changes ∷ heard) ask = absurd ask
+asking m txn (Reply.NotCommitted fault changes grants ∷ heard) ask = absurd ask
+asking m txn (Reply.Raise answer ∷ heard) ask =
+    let all = Reply.Raise answer ∷ heard in
     absurd (no-raise m txn all (slice_get (granted all) (turned all)) ask)
-asking m txn (reply.RaiseBack grant ∷ heard) ask =
-    let all = reply.RaiseBack grant ∷ heard in
+asking m txn (Reply.RaiseBack grant ∷ heard) ask =
+    let all = Reply.RaiseBack grant ∷ heard in
     absurd (no-raise m txn all (slice_get (granted all) (turned all)) ask)
-asking m txn (reply.Renew grant told ∷ heard) ask =
-    let all = reply.Renew grant told ∷ heard in
+asking m txn (Reply.Renew grant answer ∷ heard) ask =
+    let all = Reply.Renew grant answer ∷ heard in
     absurd (no-renewal m txn all (slice_get (granted all) (turned all)) ask)
-asking m txn (reply.Committed number changes grants ∷ heard) ask =
-    absurd (no-release txn (release_by false (reply.Committed number changes grants ∷ heard))
-    (slice_get (given (reply.Committed number changes grants ∷ heard)) (released (reply.Committed number changes grants ∷ heard))) ask)
-asking m txn (reply.End was ∷ heard) ask =
-    absurd (no-release txn (release_by false (reply.End was ∷ heard)) (slice_get (given (reply.End was ∷ heard)) (released (reply.End was ∷ heard))) ask)
-asking m txn (reply.Rel told ∷ heard) ask =
-    absurd (no-release txn (release_by false (reply.Rel told ∷ heard)) (slice_get (given (reply.Rel told ∷ heard)) (released (reply.Rel told ∷ heard))) ask)
-asking m txn (reply.SarBack grant ∷ heard) ask =
-    absurd (no-release txn (release_by false (reply.SarBack grant ∷ heard))
-    (slice_get (given (reply.SarBack grant ∷ heard)) (released (reply.SarBack grant ∷ heard))) ask)
-asking m txn (reply.Answer answer ∷ heard) ask = absurd ask
-asking m txn (reply.Set told ∷ heard) ask = absurd ask
-asking m txn (reply.Nothing ∷ heard) ask = absurd ask
+asking m txn (Reply.Committed number changes grants ∷ heard) ask =
+    absurd (no-release txn (release_by false (Reply.Committed number changes grants ∷ heard))
+    (slice_get (given (Reply.Committed number changes grants ∷ heard)) (released (Reply.Committed number changes grants ∷ heard))) ask)
+asking m txn (Reply.End was ∷ heard) ask =
+    absurd (no-release txn (release_by false (Reply.End was ∷ heard)) (slice_get (given (Reply.End was ∷ heard)) (released (Reply.End was ∷ heard))) ask)
+asking m txn (Reply.Rel answer ∷ heard) ask =
+    absurd (no-release txn (release_by false (Reply.Rel answer ∷ heard)) (slice_get (given (Reply.Rel answer ∷ heard)) (released (Reply.Rel answer ∷ heard))) ask)
+asking m txn (Reply.SarBack grant ∷ heard) ask =
+    absurd (no-release txn (release_by false (Reply.SarBack grant ∷ heard))
+    (slice_get (given (Reply.SarBack grant ∷ heard)) (released (Reply.SarBack grant ∷ heard))) ask)
+asking m txn (Reply.Answer answer ∷ heard) ask = absurd ask
+asking m txn (Reply.Set answer ∷ heard) ask = absurd ask
+asking m txn (Reply.Nothing ∷ heard) ask = absurd ask
 
 -- after replies that may come it gives up, and was told of no commit
 record Up (m : Mode) (txn : List Change) (heard : List Reply) : Type 0 where
   up : IsGivingUp (wants (Quit m txn) false heard)
   none : number_of heard ≡ None
 
-after : (who : Sid) (m : Mode) (txn : List Change) (told : Reply) (heard : List Reply)
-    → MayCome told → Belongs who (wants (Quit m txn) false heard) told → Up m txn heard → Up m txn (told ∷ heard)
+after : (who : Sid) (m : Mode) (txn : List Change) (reply : Reply) (heard : List Reply)
+    → MayCome reply → Belongs who (wants (Quit m txn) false heard) reply → Up m txn heard → Up m txn (reply ∷ heard)
 unfolding MayCome
-after who m txn (reply.Quar (quarantine.Granted grant old)) heard may b h =
-    let all = reply.Quar (quarantine.Granted grant old) ∷ heard in
+after who m txn (Reply.Quar (quarantine.Granted grant old)) heard may b h =
+    let all = Reply.Quar (quarantine.Granted grant old) ∷ heard in
     record { up = up-next m txn all (slice_get (footprint txn) (count_by is_had all)); none = h.none }
-after who m txn (reply.Quar quarantine.Held) heard may b h =
-    let all = reply.Quar quarantine.Held ∷ heard in
+after who m txn (Reply.Quar quarantine.Held) heard may b h =
+    let all = Reply.Quar quarantine.Held ∷ heard in
     record { up = up-next m txn all (slice_get (footprint txn) (count_by is_had all)); none = h.none }
-after who m txn (reply.Quar (quarantine.Refused holder held)) heard may b h = record { up = tt; none = h.none }
-after who m txn (reply.End was) heard may b h =
-    let all = reply.End was ∷ heard in
+after who m txn (Reply.Quar (quarantine.Refused holder held)) heard may b h = record { up = tt; none = h.none }
+after who m txn (Reply.End was) heard may b h =
+    let all = Reply.End was ∷ heard in
     record { up = up-release m txn heard (number_of heard) (slice_get (given all) (released all)) h.none; none = h.none }
-after who m txn (reply.Rel answer) heard may b h =
-    let all = reply.Rel answer ∷ heard in
+after who m txn (Reply.Rel answer) heard may b h =
+    let all = Reply.Rel answer ∷ heard in
     record { up = up-release m txn heard (number_of heard) (slice_get (given all) (released all)) h.none; none = h.none }
-after who m txn (reply.Fault fault) heard may b h =
+after who m txn (Reply.Fault fault) heard may b h =
     let some = asking m txn heard (faulted who (wants (Quit m txn) false heard) fault h.up b) in
     record { up = subst (λ (all : Bool). IsGivingUp (after_fault all (writing_of (Quit m txn)) heard)) (sym some) tt; none = h.none }
-after who m txn reply.Nothing heard may b h = record { up = tt; none = h.none }
+after who m txn Reply.Nothing heard may b h = record { up = tt; none = h.none }
 after who m txn other heard may b h = absurd may
 
 up-after : (who : Sid) (m : Mode) (txn : List Change) (heard : List Reply) → AreReplies who (Quit m txn) heard → Up m txn heard
 up-after who m txn [] h = record { up = up-next m txn [] (slice_get (footprint txn) (count_by is_had [])); none = refl }
-up-after who m txn (told ∷ heard) h =
+up-after who m txn (reply ∷ heard) h =
     let before = up-after who m txn heard h.1 in
-    after who m txn told heard (may-come who (wants (Quit m txn) false heard) told before.up h.0) h.0 before
+    after who m txn reply heard (may-come who (wants (Quit m txn) false heard) reply before.up h.0) h.0 before
 
 -- a session that quits gives up, after whatever replies to what it wanted
 gives-up : (who : Sid) (plan : Plan) (heard : List Reply) → IsQuit plan → AreReplies who plan heard → IsGivingUp (wants plan false heard)
@@ -226,31 +226,31 @@ wants-up session request quit way is =
     subst IsGivingUp (sym is) (gives-up (sid_of session) (plan_of session) way.heard quit way.replies)
 
 -- such a session goes on under way
-pub goes-on : (old wanting new : Session) (request : Wanted) (told : Reply)
+pub goes-on : (old wanting new : Session) (request : Wanted) (reply : Reply)
     → (way : IsUnderWay old) → plan_of wanting ≡ plan_of old → sid_of wanting ≡ sid_of old
     → request ≡ wants (plan_of old) false way.heard → Follows wanting false way.heard
     → plan_of new ≡ plan_of wanting → sid_of new ≡ sid_of wanting → IsReady new
-    → (Follows wanting false way.heard → Follows new false (told ∷ way.heard)) → Belongs (sid_of old) request told → IsUnderWay new
-goes-on old wanting new request told way plan sid is follows plan' sid' ready on b =
+    → (Follows wanting false way.heard → Follows new false (reply ∷ way.heard)) → Belongs (sid_of old) request reply → IsUnderWay new
+goes-on old wanting new request reply way plan sid is follows plan' sid' ready on b =
     let plans : plan_of old ≡ plan_of new = sym (plan' ∙ plan) in
     let sids : sid_of old ≡ sid_of new = sym (sid' ∙ sid) in
-    let R : Plan → Type 0 = λ p. AreReplies (sid_of new) p (told ∷ way.heard) in
-    let S : Sid → Type 0 = λ s. AreReplies s (plan_of old) (told ∷ way.heard) in
+    let R : Plan → Type 0 = λ p. AreReplies (sid_of new) p (reply ∷ way.heard) in
+    let S : Sid → Type 0 = λ s. AreReplies s (plan_of old) (reply ∷ way.heard) in
     record {
       ready = ready;
-      heard = told ∷ way.heard;
-      replies = subst R plans (subst S sids (subst (λ (w : Wanted). Belongs (sid_of old) w told) is b, way.replies));
+      heard = reply ∷ way.heard;
+      replies = subst R plans (subst S sids (subst (λ (w : Wanted). Belongs (sid_of old) w reply) is b, way.replies));
       follows = on follows;
     }
 
 -- no reply to such a request tells of a commit
-may-refresh : (told : Reply) → MayCome told → IsRefreshing told → ⊥
+may-refresh : (reply : Reply) → MayCome reply → IsRefreshing reply → ⊥
 unfolding MayCome
-may-refresh (reply.Committed number txn grants) may h = may
+may-refresh (Reply.Committed number txn grants) may h = may
 may-refresh other may h = h
 
-pub not-refreshing : (who : Sid) (request : Wanted) (told : Reply) → IsGivingUp request → Belongs who request told → IsRefreshing told → ⊥
-not-refreshing who request told up b h = may-refresh told (may-come who request told up b) h
+pub not-refreshing : (who : Sid) (request : Wanted) (reply : Reply) → IsGivingUp request → Belongs who request reply → IsRefreshing reply → ⊥
+not-refreshing who request reply up b h = may-refresh reply (may-come who request reply up b) h
 
 -- ---- the reply to a quarantine
 
@@ -258,23 +258,23 @@ not-refreshing who request told up b h = may-refresh told (may-come who request 
 pub shown-answer : {E : Type 0} (terms : Terms) (past : List Step) (key : QKey) (who : Sid) (m : Mode) (shift : ℤ) (now : ℕ) (result : Result QAnswer E)
     → IfOk result (ShowsQuarantine terms past (quarantine_step terms past key who m shift now)) → IfOk result (IsQuarantineOf who key m)
 shown-answer terms past key who m shift now (Err fault) shows = tt
-shown-answer terms past key who m shift now (Ok told) shows =
-    quarantine_belongs terms past key who m shift now told shows
+shown-answer terms past key who m shift now (Ok answer) shows =
+    quarantine_belongs terms past key who m shift now answer shows
 
 -- a reply to a quarantine belongs to the request for it
-pub belongs-reg : (who : Sid) (key : QKey) (told : Reply) → IsQuarantineReply who key mode.Invalidate told → Belongs who (wanted.QaReg key) told
-belongs-reg who key (reply.Quar answer) h = h
-belongs-reg who key (reply.Fault fault) h = h
+pub belongs-reg : (who : Sid) (key : QKey) (reply : Reply) → IsQuarantineReply who key mode.Invalidate reply → Belongs who (wanted.QaReg key) reply
+belongs-reg who key (Reply.Quar answer) h = h
+belongs-reg who key (Reply.Fault fault) h = h
 belongs-reg who key other h = absurd h
 
-pub belongs-read : (who : Sid) (key : QKey) (told : Reply) → IsQuarantineReply who key mode.Refresh told → Belongs who (wanted.QaRead key) told
-belongs-read who key (reply.Quar answer) h = h
-belongs-read who key (reply.Fault fault) h = h
+pub belongs-read : (who : Sid) (key : QKey) (reply : Reply) → IsQuarantineReply who key mode.Refresh reply → Belongs who (wanted.QaRead key) reply
+belongs-read who key (Reply.Quar answer) h = h
+belongs-read who key (Reply.Fault fault) h = h
 belongs-read who key other h = absurd h
 
-pub belongs-delta : (who : Sid) (key : QKey) (by : ℤ) (told : Reply) → IsQuarantineReply who key mode.Delta told → Belongs who (wanted.Delta key by) told
-belongs-delta who key by (reply.Quar answer) h = h
-belongs-delta who key by (reply.Fault fault) h = h
+pub belongs-delta : (who : Sid) (key : QKey) (by : ℤ) (reply : Reply) → IsQuarantineReply who key mode.Delta reply → Belongs who (wanted.Delta key by) reply
+belongs-delta who key by (Reply.Quar answer) h = h
+belongs-delta who key by (Reply.Fault fault) h = h
 belongs-delta who key by other h = absurd h
 
 -- ---- what such a request leaves of a shard
@@ -284,23 +284,23 @@ pub same-shard : (old new : ShardView) → new ≡ old → HasSameEntries (past_
 same-shard old new same key = ap (λ (shard : ShardView). entry key (past_of shard)) same
 
 -- the answer to a quarantine shows a step that leaves each entry
-asked-step : (old : ShardView) (s : Step) (told : QAnswer) → ShowsQuarantine old.terms (past_of old) s told
+asked-step : (old : ShardView) (s : Step) (answer : QAnswer) → ShowsQuarantine old.terms (past_of old) s answer
     → (key : QKey) → entry key (s ∷ past_of old) ≡ entry key (past_of old)
-asked-step old (step.Granted on sid mode shift now token deadline) told shows key = refl
-asked-step old (step.Held on sid mode) told shows key = refl
-asked-step old (step.Refused on sid mode holder held) told shows key = refl
-asked-step old other told shows key = absurd shows
+asked-step old (step.Granted on sid mode shift now token deadline) answer shows key = refl
+asked-step old (step.Held on sid mode) answer shows key = refl
+asked-step old (step.Refused on sid mode holder held) answer shows key = refl
+asked-step old other answer shows key = absurd shows
 
 pub asked-same : {E : Type 0} (result : Result QAnswer E) (old new : ShardView) (s : Step) → OnOk result (new ≡ stepped (rolled old) s)
     → IfOk result (ShowsQuarantine old.terms (past_of old) s) → OnErr result (new ≡ old) → HasSameEntries (past_of old) (past_of new)
 asked-same (Err fault) old new s made shows same = same-shard old new same
-asked-same (Ok told) old new s made shows same = λ key.
+asked-same (Ok answer) old new s made shows same = λ key.
     ap (λ (shard : ShardView). entry key (past_of shard)) made
     ∙ ap (entry key) (reverse-append old.history (s ∷ []))
-    ∙ asked-step old s told shows key
+    ∙ asked-step old s answer shows key
 
 -- a release that leaves the value leaves each entry
-left-same : (grant : Permit) (old new : List Step) (told : Rel) → LeavesValue grant old new told → HasSameEntries old new
+left-same : (grant : Permit) (old new : List Step) (answer : Rel) → LeavesValue grant old new answer → HasSameEntries old new
 left-same grant old new rel.Gone h key = (h.everywhere key).same_entry
 left-same grant old new (rel.Released evicted) h key = by (same_key key grant.key) refl
   where
@@ -308,10 +308,10 @@ left-same grant old new (rel.Released evicted) h key = by (same_key key grant.ke
     by true is = subst (λ (k : QKey). entry k new ≡ entry k old) (sym (same_key-true key grant.key is)) h.1.has_entry
     by false is = (h.1.elsewhere key is).same_entry
 
-pub kept-same : (old new : ShardView) (grant : Permit) (told : Rel) → (IsTrue (is_out old grant) → LeavesValue grant (past_of old) (past_of new) told)
-    → (IsFalse (is_out old grant) → (new ≡ old) × (told ≡ rel.Gone)) → HasSameEntries (past_of old) (past_of new)
-kept-same old new grant told leaves unknown = by (is_out old grant) refl
+pub kept-same : (old new : ShardView) (grant : Permit) (answer : Rel) → (IsTrue (is_out old grant) → LeavesValue grant (past_of old) (past_of new) answer)
+    → (IsFalse (is_out old grant) → (new ≡ old) × (answer ≡ rel.Gone)) → HasSameEntries (past_of old) (past_of new)
+kept-same old new grant answer leaves unknown = by (is_out old grant) refl
   where
     by : (b : Bool) → is_out old grant ≡ b → HasSameEntries (past_of old) (past_of new)
-    by true is = left-same grant (past_of old) (past_of new) told (leaves is)
+    by true is = left-same grant (past_of old) (past_of new) answer (leaves is)
     by false is = same-shard old new (unknown is).0

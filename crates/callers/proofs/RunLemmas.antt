@@ -39,7 +39,7 @@ use Rattle.run_words.specs.declared.words.Words.TheVariants as words
 use Rattle.run_words.specs.declared.words.WordsFault.{WordsFault}
 use Rattle.run_words.specs.declared.words.WordsFault.TheVariants as fault
 use Rattle.run_audit.specs.declared.findings.Finding.{Finding}
-use Rattle.top_run.specs.Works.{IsSummed, IsTold, WorkEnded}
+use Rattle.top_run.specs.Works.{IsSummed, IsSummarized, WorkEnded}
 use Rattle.core_history.specs.Machine.{terms_of}
 use Rattle.core_history.specs.Truth.{IsTruePast}
 use Rattle.top_run.specs.declared.runs.Status.{Status}
@@ -89,16 +89,16 @@ fresh-began : (held : Held) (before after : Tells) (left : Left) (opening : Tabl
     → Began held before after left → held.place ≡ place.Fresh → IsSome after.rows → left.opening ≡ Some opening
     → IsFreshRun before.left after.left opening after.rows left.log left.histories
 fresh-began held before after left opening b new some is =
-    let told = some-at after.rows some in
+    let known = some-at after.rows some in
     let same : b.opening ≡ opening = same-inside b.opening opening (sym b.opening_is ∙ is) in
     subst (λ (rows : Tables). IsFreshRun before.left after.left rows after.rows left.log left.histories) same (record {
       shape = b.shape;
       acts = b.acts;
       read = b.read;
-      opened = b.opened.opened told.0 told.1 (start_tables b.shape.members) (b.opened.fresh new);
-      fresh = b.keeps.fresh told.0 told.1;
+      opened = b.opened.opened known.0 known.1 (start_tables b.shape.members) (b.opened.fresh new);
+      fresh = b.keeps.fresh known.0 known.1;
       covered = b.keeps.covered;
-      rows_are = told.1 ∙ ap Some (b.keeps.rows_are told.0 told.1);
+      rows_are = known.1 ∙ ap Some (b.keeps.rows_are known.0 known.1);
     })
   where
     same-inside : (a b : Tables) → Some a ≡ Some b → a ≡ b
@@ -135,17 +135,17 @@ run-at s held before after left written h = by left.opening refl (began-or-not s
       where
         none-some : (opening : Tables) → None ≡ Some opening → ⊥
         none-some opening e = absurd cc
-    by (Some opening) is (inr b) = λ rows told.
+    by (Some opening) is (inr b) = λ rows known.
         let same : b.opening ≡ opening = same-inside b.opening opening (sym b.opening_is ∙ is) in
         subst (λ (first : Tables). IsRunAt held.place held.rows before.left after.left first left.log left.histories rows) same (record {
           shape = b.shape;
           acts = b.acts;
           read = b.read;
-          opened = b.opened.opened rows told;
-          opened_fresh = λ new. b.opened.opened rows told (start_tables b.shape.members) (b.opened.fresh new);
-          fresh = b.keeps.fresh rows told;
+          opened = b.opened.opened rows known;
+          opened_fresh = λ new. b.opened.opened rows known (start_tables b.shape.members) (b.opened.fresh new);
+          fresh = b.keeps.fresh rows known;
           covered = b.keeps.covered;
-          rows_are = b.keeps.rows_are rows told;
+          rows_are = b.keeps.rows_are rows known;
         })
 
 -- and where the keeper tells its rows for good, it tells them then
@@ -153,8 +153,8 @@ pub run-telling : (opening after : Option Tables) (P : Tables → Tables → Typ
     → IfSome opening (λ first. (rows : Tables) × (after ≡ Some rows) × P first rows)
 run-telling None after P h started = tt
 run-telling (Some first) after P h started =
-    let told = some-at after (started refl) in
-    (told.0, told.1, h told.0 told.1)
+    let known = some-at after (started refl) in
+    (known.0, known.1, h known.0 known.1)
 
 -- each history of a run that is kept is legal, so that its hits meet their floors
 pub above-floors : HitsMeetTheirFloors → (s : Status) (held : Held) (before after : Tells) (left : Left) (written : ℕ) → Ended s held before after left written
@@ -190,7 +190,7 @@ same_of_usage (Ok (words.Work at spec)) ended courses h is =
     let course = courses at in
     absurd (subst (λ (e : Status). WorkEnded e spec course.held course.before course.after course.left course.written) is h.1)
 same_of_usage (Ok (words.Serve at spec)) ended courses h is = absurd (subst (λ (e : Status). ServeEnded e spec (courses at)) is h.1)
-same_of_usage (Ok (words.Told text)) ended courses h is =
+same_of_usage (Ok (words.Text text)) ended courses h is =
     absurd (subst (λ (e : Status). IsTextPart e text.items (h place.Fresh).1.printed) is (h place.Fresh).1.is_part)
 same_of_usage (Err fault.Usage) ended courses h is = (place.Fresh, (h.1 place.Fresh).same)
 same_of_usage (Err fault.Memory) ended courses h is = (place.Fresh, (h.1 place.Fresh).same)
@@ -290,8 +290,8 @@ pub of-one : TextsTellScripts → (held held' : Held) (before after before' afte
     (b' : IsBegun held' before' after' left') (rows rows' : Tables) → held.place ≡ place.Fresh → held'.place ≡ place.Fresh
     → after.rows ≡ Some rows → after'.rows ≡ Some rows' → IsSome before.left → before'.left ≡ before.left
     → AreOfOne b.shape b'.shape b.acts b'.acts b.opening b'.opening
-of-one texts held held' before after before' after' left left' b b' rows rows' new new' is is' told same =
-    let rest = some-at before.left told in
+of-one texts held held' before after before' after' left left' b b' rows rows' new new' is is' known same =
+    let rest = some-at before.left known in
     let text = one-text before.left before'.left after.left after'.left
     b.read.text b'.read.text rest.0 rest.1 same b.read.takes b.read.at_end b'.read.takes b'.read.at_end in
     let script = texts.one_script b.read.text b.shape b'.shape b.acts b'.acts b.read.is_script
@@ -310,10 +310,10 @@ wholes-alike : TextsTellScripts → RunsAreDetermined → (held held' : Held) (b
     → held.place ≡ place.Fresh → held'.place ≡ place.Fresh → IsSome after.rows
     → IsSome after'.rows → IsSome before.left → before'.left ≡ before.left → before.taken ≡ Some [] → before'.taken ≡ Some []
     → AreAlike after after' left left' written written'
-wholes-alike texts law held held' before after before' after' left left' written written' h h' new new' some some' told same none none' =
+wholes-alike texts law held held' before after before' after' left left' written written' h h' new new' some some' known same none none' =
     let rows = some-at after.rows some in
     let rows' = some-at after'.rows some' in
-    let one = of-one texts held held' before after before' after' left left' h.begun h'.begun rows.0 rows'.0 new new' rows.1 rows'.1 told same in
+    let one = of-one texts held held' before after before' after' left left' h.begun h'.begun rows.0 rows'.0 new new' rows.1 rows'.1 known same in
     let made : AreMoves h.acts h'.moves = h'.made ∙ ap calls_of (sym one.scripts) in
     let at' : past_of h'.shape h'.moves ≡ past_of h.shape h'.moves = ap (λ (s : Shape). past_of s h'.moves) (sym one.shapes) in
     let truth : IsTruePast h.opening (past_of h.shape h'.moves) =
@@ -347,11 +347,11 @@ pub two-alike : TextsTellScripts → RunsAreDetermined
     → held.place ≡ place.Fresh → held'.place ≡ place.Fresh → (IsSome left.opening → IsSome after.rows) → (IsSome left'.opening → IsSome after'.rows)
     → IsSome before.left → before'.left ≡ before.left → before.taken ≡ Some [] → before'.taken ≡ Some []
     → one ≡ status.Done → two ≡ status.Done → AreAlike after after' left left' written written'
-two-alike texts law one two held held' before after before' after' left left' written written' h h' new new' started started' told same none none' done done' =
+two-alike texts law one two held held' before after before' after' left left' written written' h h' new new' started started' known same none none' done done' =
     let whole = subst (λ (s : Status). Ended s held before after left written) done h in
     let whole' = subst (λ (s : Status). Ended s held' before' after' left' written') done' h' in
     wholes-alike texts law held held' before after before' after' left left' written written' whole whole' new new'
-    (started (began left.opening whole.opening whole.opening_is)) (started' (began left'.opening whole'.opening whole'.opening_is)) told same none none'
+    (started (began left.opening whole.opening whole.opening_is)) (started' (began left'.opening whole'.opening whole'.opening_is)) known same none none'
   where
     began : (o : Option Tables) (opening : Tables) → o ≡ Some opening → IsSome o
     began o opening is = subst (λ (o : Option Tables). IsSome o) (sym is) refl
@@ -366,8 +366,8 @@ clean_summed spec held before after left written h = record {
   covered = h.kept.covered refl;
   fresh = h.kept.fresh refl;
   found = h.found;
-  told = h.told;
-  clean = λ some. (found-clean h.opening left.log left.histories h.found h.told.is_summary.is_finding).1 (h.kept.covered refl, h.kept.fresh refl some);
+  summary_is = h.summary_is;
+  clean = λ some. (found-clean h.opening left.log left.histories h.found h.summary_is.is_summary.is_finding).1 (h.kept.covered refl, h.kept.fresh refl some);
 }
 
 -- a load that ended Done is clean
@@ -381,12 +381,12 @@ pub load_fresh : (place : Place) (spec : WorkSpec) (before after : Tells) (left 
     → (IsSome left.opening → IsSome after.rows) → IsFreshLoad place spec before.taken after.taken left written
 load_fresh place spec before after left written h started =
     let some : IsSome after.rows = started (subst (λ (o : Option Tables). IsSome o) (sym h.opening_is) refl) in
-    let told = some-at after.rows some in
+    let known = some-at after.rows some in
     record {
       opening = h.opening;
       opening_is = h.opening_is;
-      opened = λ new. h.opened new told.0 told.1;
+      opened = λ new. h.opened new known.0 known.1;
       covered = h.covered;
       fresh = h.fresh some;
-      told = subst (λ (f : Finding). IsTold spec h.opening left.log left.histories before.taken after.taken written f) (h.clean some) h.told;
+      summary_is = subst (λ (f : Finding). IsSummarized spec h.opening left.log left.histories before.taken after.taken written f) (h.clean some) h.summary_is;
     }

@@ -303,10 +303,10 @@ serve-run s held before after left written h started = by left.opening refl (beg
         none-some : (opening : Tables) → None ≡ Some opening → ⊥
         none-some opening e = cc
     by (Some opening) is (inr b) =
-        let told = some-at after.rows (started (subst (λ (o : Option Tables). IsSome o) (sym is) refl)) in
+        let known = some-at after.rows (started (subst (λ (o : Option Tables). IsSome o) (sym is) refl)) in
         let same : b.opening ≡ opening = same-inside b.opening opening (sym b.opening_is ∙ is) in
         subst (λ (rows : Tables). HitsAfterWrites rows left.log left.histories) same
-        (served b.shape b.opening b.moves after.rows left.log left.histories b.keeps (b.keeps.fresh told.0 told.1))
+        (served b.shape b.opening b.moves after.rows left.log left.histories b.keeps (b.keeps.fresh known.0 known.1))
       where
         same-inside : (a b : Tables) → Some a ≡ Some b → a ≡ b
         same-inside a b e = cc

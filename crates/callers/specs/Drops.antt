@@ -34,8 +34,8 @@ pub record IsFinalDrop (key : QKey) (token : ℕ) (least : ℕ) (log : List Comm
 -- So is each drop among these events that made a step.
 abbrev pub DropsAreFinal : List Event → List Commit → List (List Step) → Type 0
 DropsAreFinal past log histories =
-    (before after : List Event) (home : ℕ) (key : QKey) (token : ℕ) (step : Step) (told : SweepReply) (history : List Step)
-    → past ≡ after ++ Swept home (sweep.Drop key token) (Some step) told ∷ before
+    (before after : List Event) (home : ℕ) (key : QKey) (token : ℕ) (step : Step) (reply : SweepReply) (history : List Step)
+    → past ≡ after ++ Swept home (sweep.Drop key token) (Some step) reply ∷ before
     → slice_get histories home ≡ Some history
     → IsFinalDrop key token (length (log_of before)) log history
 

@@ -8,7 +8,7 @@ use Rattle.key_shard.specs.Past.{entry}
 use Rattle.session_client.specs.declared.plans.Plan.{Plan}
 use Rattle.session_client.specs.declared.plans.Plan.TheVariants.{Quit}
 use Rattle.session_client.specs.declared.replies.Reply.{Reply}
-use Rattle.session_client.specs.declared.replies.Reply.TheVariants as reply
+use Rattle.session_client.specs.declared.replies.Reply.TheVariants as Reply
 use Rattle.session_client.specs.declared.replies.Wanted.{Wanted}
 use Rattle.session_client.specs.declared.replies.Wanted.TheVariants as wanted
 use Rattle.session_client.specs.declared.sessions.Session.{Session}
@@ -35,7 +35,7 @@ IsGivingUp other = ⊥
 -- Each reply, the latest first, belongs to what a session of this plan wanted after those before it.
 abbrev pub AreReplies : Sid → Plan → List Reply → Type 0
 AreReplies who plan [] = Unit {0}
-AreReplies who plan (told ∷ heard) = Belongs who (wants plan false heard) told × AreReplies who plan heard
+AreReplies who plan (reply ∷ heard) = Belongs who (wants plan false heard) reply × AreReplies who plan heard
 
 -- The session is ready, and what it heard so far were replies to what it wanted.
 pub record IsUnderWay (session : Session) : Type 0 where
@@ -46,8 +46,8 @@ pub record IsUnderWay (session : Session) : Type 0 where
 
 -- The reply to a quarantine of the key by this session in this mode: its answer, or a fault of a shard.
 abbrev pub IsQuarantineReply : Sid → QKey → Mode → Reply → Type 0
-IsQuarantineReply who key mode (reply.Quar told) = IsQuarantineOf who key mode told
-IsQuarantineReply who key mode (reply.Fault fault) = IsShardFault fault
+IsQuarantineReply who key mode (Reply.Quar answer) = IsQuarantineOf who key mode answer
+IsQuarantineReply who key mode (Reply.Fault fault) = IsShardFault fault
 IsQuarantineReply who key mode other = ⊥
 
 -- Each entry is as before.

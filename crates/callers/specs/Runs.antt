@@ -27,7 +27,7 @@ use Rattle.top_run.specs.Runs.{IsRead, Prints, Tells, Left}
 use Rattle.run_words.specs.Words.{most_served}
 use Rattle.door_workers.specs.Attending.{HaveEnds, IsEnough}
 use Rattle.top_run.specs.Serves.{serve_shape, serve_keep, serve_text, line_count}
-use Rattle.top_run.specs.Works.{IsLeft, IsTold}
+use Rattle.top_run.specs.Works.{IsLeft, IsSummarized}
 
 -- A run at a fresh place, over a keeper that tells its rows for good, which began with these rows and has those at its end: it
 -- began with the rows of as many members as its script says, no hit is stale, each commit is covered, and the rows at the end
@@ -66,7 +66,7 @@ pub record IsCleanLoad (place : Place) (spec : WorkSpec) (before after : Tells) 
   pub covered : Covered left.log left.histories
   pub fresh : IsSome after.rows → Fresh opening left.log left.histories
   pub found : Finding
-  pub told : IsTold spec opening left.log left.histories before.taken after.taken written found
+  pub summary_is : IsSummarized spec opening left.log left.histories before.taken after.taken written found
   pub clean : IsSome after.rows → found ≡ finding.Clean
 
 -- A load of these words over a keeper that tells its rows for good ended Done: its summary was written, each commit is
@@ -78,7 +78,7 @@ pub record IsFreshLoad (place : Place) (spec : WorkSpec) (taken_old taken_new : 
   pub opened : place ≡ places.Fresh → opening ≡ start_tables spec.members
   pub covered : Covered left.log left.histories
   pub fresh : Fresh opening left.log left.histories
-  pub told : IsTold spec opening left.log left.histories taken_old taken_new written finding.Clean
+  pub summary_is : IsSummarized spec opening left.log left.histories taken_old taken_new written finding.Clean
 
 -- A server ended Done: so many connections were served as were asked for, or the door said that no more come, as it did where no
 -- number was asked for. There is an end for each of a number of connections. The sink took all that a server writes, with the number

@@ -2,7 +2,7 @@
 //! writes.
 ghost use Rattle.std.specs.Prelude.{◌≡◌, ℕ, List};
 ghost use Rattle.key_shard.specs.declared.replies.Got.TheVariants as got;
-ghost use Rattle.session_client.specs.declared.replies.Reply.TheVariants as reply;
+ghost use Rattle.session_client.specs.declared.replies.Reply.TheVariants as Reply;
 ghost use Rattle.callers.specs.Desks.{IsServedFresh};
 
 use bound_desk::BoundDesk;
@@ -23,7 +23,7 @@ pub fn get_fresh<K: Keeper, H: BoundName, C: Clock, G: Gate, R: Wait>(
     key: QKey,
     floor: u64,
 ) -> Reply
-    ensures { (value : List ℕ) (stamp : ℕ) → result ≡ reply.Got (got.Hit value stamp) →
+    ensures { (value : List ℕ) (stamp : ℕ) → result ≡ Reply.Got (got.Hit value stamp) →
         IsServedFresh H.opening H.word.shards desk.old.seen desk.new.seen key floor value stamp }
 {
     desk.get(who, key, floor)

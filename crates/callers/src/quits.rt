@@ -37,7 +37,7 @@ pub fn quit_on(session: &mut Session, shard: &mut Shard, now: u64) -> Option<Wan
     let request = session.wants();
     match give_up_on(shard, sid, request, now) {
         Ok(reply) => {
-            let Ok(()) = session.told(reply) else {
+            let Ok(()) = session.hear(reply) else {
                 unreachable!()
             };
             None
@@ -67,7 +67,7 @@ fn give_up_on(shard: &mut Shard, sid: Sid, request: Wanted, now: u64) -> Result<
             None => Err(Wanted::Delta { key, by }),
         },
         Wanted::Abort { grant } => Ok(Reply::Rel {
-            told: abort(shard, grant),
+            answer: abort(shard, grant),
         }),
         other => Err(other),
     }
@@ -79,7 +79,7 @@ fn told_of(answer: Result<QAnswer, ShardFault>) -> Option<Reply>
         IfSome result (IsQuarantineReply who key mode) }
 {
     match answer {
-        Ok(told) => Some(Reply::Quar { told }),
+        Ok(its_answer) => Some(Reply::Quar { answer: its_answer }),
         Err(ShardFault::Spent { next: _ }) => Some(Reply::Fault {
             fault: Fault::Spent,
         }),
@@ -96,7 +96,7 @@ fn told_of_delta(answer: Result<QAnswer, DeltaFault>) -> Option<Reply>
         IfSome result (IsQuarantineReply who key mode) }
 {
     match answer {
-        Ok(told) => Some(Reply::Quar { told }),
+        Ok(its_answer) => Some(Reply::Quar { answer: its_answer }),
         Err(DeltaFault::Shard { fault }) => told_of(Err(fault)),
         Err(DeltaFault::NotCount) => None,
     }

@@ -10,19 +10,19 @@ use Rattle.mc_text.specs.Framing.{Frames, past, fed}
 use Rattle.mc_text.specs.declared.commands.Command.TheVariants.{Quit}
 use Rattle.mc_text.specs.declared.faults.FrameFault.{FrameFault}
 use Rattle.mc_text.specs.declared.faults.FrameFault.TheVariants as frame
-use Rattle.mc_text.specs.declared.replies.LineReply.TheVariants as reply
-use Rattle.session_client.specs.Desks.{Call, one_more}
+use Rattle.mc_text.specs.declared.replies.LineReply.TheVariants as LineReply
+use Rattle.session_client.specs.Desks.{Exchange, one_more}
 use Rattle.plain_ops.specs.Desks.{PlainCall, with_plain_call, with_plain_calls}
 use Rattle.conn_server.specs.declared.clients.Client.{Client}
 use Rattle.conn_server.specs.declared.ends.LineEnd.{LineEnd}
 use Rattle.conn_server.specs.declared.ends.LineEnd.TheVariants as ends
 use Rattle.conn_server.specs.declared.serving.Serving.{Serving}
-use Rattle.conn_server.specs.declared.outgoing.Told.{Told}
-use Rattle.conn_server.specs.declared.outgoing.Told.TheVariants.{Lease}
+use Rattle.conn_server.specs.declared.outgoing.Response.{Response}
+use Rattle.conn_server.specs.declared.outgoing.Response.TheVariants.{Lease}
 use Rattle.mixed_lines.specs.declared.streams.Said.{Said}
 use Rattle.mixed_lines.specs.Fronts.{Reads as IsRead, Faults, item_of, Takes as FrameTakes}
-use Rattle.mixed_lines.specs.Items.{Item, command, bad_line, Stands, IsOpen, AreFirst}
-use Rattle.conn_server.specs.Outgoing.{told_text, plain_calls_of, plain_calls, frame_told}
+use Rattle.mixed_lines.specs.Items.{Item, command, bad_line, IsFirst, IsOpen, AreFirst}
+use Rattle.conn_server.specs.Outgoing.{response_text, plain_calls_of, plain_calls, frame_response}
 use Rattle.conn_server.specs.Clients.{newcomer}
 use Rattle.conn_server.specs.Answers.{ItemAnswers, AllAnswer, GivenUp, with_calls}
 use Rattle.conn_server.specs.Service.{budget, texts, IsWithin, Lasts, place_of, TookSome, TookToFault, EndsSo, NoneLeft, IsServed, CountsWrites, tended_by}
@@ -34,21 +34,21 @@ use Rattle.mixed_lines.proofs.ItemLemmas.{item_fits, first_more, first_bound, it
 
 -- one item more
 first_one : (stream : List ℕ) (items : List Item) (item : Item) (size taken : ℕ)
-    → AreFirst stream items size → Stands (drop size stream) item taken → AreFirst stream (items ++ item ∷ []) (size + taken)
+    → AreFirst stream items size → IsFirst (drop size stream) item taken → AreFirst stream (items ++ item ∷ []) (size + taken)
 first_one stream [] item size taken h s =
-    let here : Stands stream item taken = rw h at s in
+    let here : IsFirst stream item taken = rw h at s in
     (taken, 0, here, refl, omega (arith, h))
 first_one stream (i ∷ items) item size taken h s =
     let (one, others, stands, rest, sum) = h in
     let behind : drop size stream ≡ drop others (drop one stream) = ap (λ (n : ℕ). drop n stream) sum ∙ sym (drop-drop others one stream) in
-    let more = first_one (drop one stream) items item others taken rest (subst (λ (bytes : List ℕ). Stands bytes item taken) behind s) in
+    let more = first_one (drop one stream) items item others taken rest (subst (λ (bytes : List ℕ). IsFirst bytes item taken) behind s) in
     (one, others + taken, stands, more, omega (arith, sum))
 
-all_one : (old : Client) (items : List Item) (asked : List Call) (told : List Told) (client : Client)
-    (item : Item) (calls : List Call) (reply : Told) (new : Client)
-    → AllAnswer old items asked told client → ItemAnswers client item calls reply new
-    → AllAnswer old (items ++ item ∷ []) (asked ++ calls) (told ++ reply ∷ []) new
-all_one old [] asked told client item calls reply new h a =
+all_one : (old : Client) (items : List Item) (asked : List Exchange) (responses : List Response) (client : Client)
+    (item : Item) (calls : List Exchange) (reply : Response) (new : Client)
+    → AllAnswer old items asked responses client → ItemAnswers client item calls reply new
+    → AllAnswer old (items ++ item ∷ []) (asked ++ calls) (responses ++ reply ∷ []) new
+all_one old [] asked responses client item calls reply new h a =
     let here : ItemAnswers old item calls reply new = rw h.2 at a in (
       calls,
       [],
@@ -57,10 +57,10 @@ all_one old [] asked told client item calls reply new h a =
       new,
       here,
       (refl, refl, refl),
-      ap (λ (xs : List Call). xs ++ calls) h.0 ∙ sym (append-nil calls),
-      ap (λ (xs : List Told). xs ++ reply ∷ []) h.1,
+      ap (λ (xs : List Exchange). xs ++ calls) h.0 ∙ sym (append-nil calls),
+      ap (λ (xs : List Response). xs ++ reply ∷ []) h.1,
     )
-all_one old (i ∷ items) asked told client item calls reply new h a =
+all_one old (i ∷ items) asked responses client item calls reply new h a =
     let (first, others, r, replies, next, here, rest, calls_are, told_are) = h in
     let more = all_one next items others replies client item calls reply new rest a in (
       first,
@@ -70,41 +70,41 @@ all_one old (i ∷ items) asked told client item calls reply new h a =
       next,
       here,
       more,
-      ap (λ (xs : List Call). xs ++ calls) calls_are ∙ append_assoc first others calls,
-      ap (λ (xs : List Told). xs ++ reply ∷ []) told_are,
+      ap (λ (xs : List Exchange). xs ++ calls) calls_are ∙ append_assoc first others calls,
+      ap (λ (xs : List Response). xs ++ reply ∷ []) told_are,
     )
 
 -- calls on the plain desk, one behind the other
-with_plain_calls-append : (calls more : List PlainCall) (told : Option (List PlainCall))
-    → with_plain_calls (calls ++ more) told ≡ with_plain_calls more (with_plain_calls calls told)
-with_plain_calls-append [] more told = refl
-with_plain_calls-append (call ∷ calls) more told = with_plain_calls-append calls more (with_plain_call call told)
+with_plain_calls-append : (calls more : List PlainCall) (recorded : Option (List PlainCall))
+    → with_plain_calls (calls ++ more) recorded ≡ with_plain_calls more (with_plain_calls calls recorded)
+with_plain_calls-append [] more recorded = refl
+with_plain_calls-append (call ∷ calls) more recorded = with_plain_calls-append calls more (with_plain_call call recorded)
 
 -- those of one item more
-plains_one : (old : Client) (items : List Item) (asked : List Call) (told : List Told) (client : Client) (item : Item) (reply : Told)
-    → AllAnswer old items asked told client
-    → plain_calls (items ++ item ∷ []) (told ++ reply ∷ []) ≡ plain_calls items told ++ plain_calls_of item reply
-plains_one old [] asked told client item reply h =
+plains_one : (old : Client) (items : List Item) (asked : List Exchange) (responses : List Response) (client : Client) (item : Item) (reply : Response)
+    → AllAnswer old items asked responses client
+    → plain_calls (items ++ item ∷ []) (responses ++ reply ∷ []) ≡ plain_calls items responses ++ plain_calls_of item reply
+plains_one old [] asked responses client item reply h =
     let all : plain_calls (item ∷ []) ([] ++ reply ∷ []) ≡ plain_calls_of item reply = append-nil (plain_calls_of item reply) in
-    subst (λ (ts : List Told). plain_calls (item ∷ []) (ts ++ reply ∷ []) ≡ plain_calls [] ts ++ plain_calls_of item reply) (sym h.1) all
-plains_one old (i ∷ items) asked told client item reply h =
+    subst (λ (ts : List Response). plain_calls (item ∷ []) (ts ++ reply ∷ []) ≡ plain_calls [] ts ++ plain_calls_of item reply) (sym h.1) all
+plains_one old (i ∷ items) asked responses client item reply h =
     let (first, others, r, replies, next, here, rest, calls_are, told_are) = h in
     let more = plains_one next items others replies client item reply rest in
-    subst (λ (ts : List Told). plain_calls (i ∷ (items ++ item ∷ [])) (ts ++ reply ∷ []) ≡ plain_calls (i ∷ items) ts ++ plain_calls_of item reply)
+    subst (λ (ts : List Response). plain_calls (i ∷ (items ++ item ∷ [])) (ts ++ reply ∷ []) ≡ plain_calls (i ∷ items) ts ++ plain_calls_of item reply)
     (sym told_are)
     (ap (λ (xs : List PlainCall). plain_calls_of i r ++ xs) more
     ∙ sym (append_assoc (plain_calls_of i r) (plain_calls items replies) (plain_calls_of item reply)))
 
-texts_one : (told : List Told) (reply : Told) → texts (told ++ reply ∷ []) ≡ texts told ++ told_text reply
-texts_one [] reply = append-nil (told_text reply)
-texts_one (t ∷ told) reply =
-    ap (λ (xs : List ℕ). told_text t ++ xs) (texts_one told reply) ∙ sym (append_assoc (told_text t) (texts told) (told_text reply))
+texts_one : (responses : List Response) (reply : Response) → texts (responses ++ reply ∷ []) ≡ texts responses ++ response_text reply
+texts_one [] reply = append-nil (response_text reply)
+texts_one (t ∷ responses) reply =
+    ap (λ (xs : List ℕ). response_text t ++ xs) (texts_one responses reply) ∙ sym (append_assoc (response_text t) (texts responses) (response_text reply))
 
 -- what is told once more is due behind what was sent
-due_more : (told : List Told) (reply : Told) (sent old : List ℕ)
-    → texts told ≡ sent ++ old → texts (told ++ reply ∷ []) ≡ sent ++ (old ++ told_text reply)
-due_more told reply sent old due =
-    texts_one told reply ∙ (ap (λ (xs : List ℕ). xs ++ told_text reply) due ∙ append_assoc sent old (told_text reply))
+due_more : (responses : List Response) (reply : Response) (sent old : List ℕ)
+    → texts responses ≡ sent ++ old → texts (responses ++ reply ∷ []) ≡ sent ++ (old ++ response_text reply)
+due_more responses reply sent old due =
+    texts_one responses reply ∙ (ap (λ (xs : List ℕ). xs ++ response_text reply) due ∙ append_assoc sent old (response_text reply))
 
 -- more of it was sent
 due_sent : (front sent waits due : List ℕ) → due ≡ sent ++ waits → front ++ due ≡ (front ++ sent) ++ waits
@@ -135,8 +135,8 @@ tended_none None = refl
 tended_none (Some count) = ap Some (sym (add-zero count))
 
 abbrev done_one : (start : Start) (reads : ReadSide) (writes : WriteSide) (before after : DeskSide) (client new : Client)
-    (done : Done start reads writes before client) (item : Item) (taken : ℕ) (calls : List Call) (reply : Told)
-    → Stands (drop done.size done.given) item taken → after.calls ≡ with_calls calls before.calls → after.tends ≡ one_more before.tends
+    (done : Done start reads writes before client) (item : Item) (taken : ℕ) (calls : List Exchange) (reply : Response)
+    → IsFirst (drop done.size done.given) item taken → after.calls ≡ with_calls calls before.calls → after.tends ≡ one_more before.tends
     → after.plains ≡ with_plain_calls (plain_calls_of item reply) before.plains
     → ItemAnswers client item calls reply new
     → Done start reads writes after new
@@ -144,7 +144,7 @@ done_one start reads writes before after client new done item taken calls reply 
   given = done.given;
   items = done.items ++ item ∷ [];
   size = done.size + taken;
-  told = done.told ++ reply ∷ [];
+  responses = done.responses ++ reply ∷ [];
   asked = done.asked ++ calls;
   sent = done.sent;
   gives = done.gives;
@@ -154,11 +154,11 @@ done_one start reads writes before after client new done item taken calls reply 
   tended = tended ∙ (ap one_more done.tended ∙ tended_one done.items item start.desk.tends);
   asks_plain = plains
       ∙ (ap (with_plain_calls (plain_calls_of item reply)) done.asks_plain
-      ∙ (sym (with_plain_calls-append (plain_calls done.items done.told) (plain_calls_of item reply) start.desk.plains)
+      ∙ (sym (with_plain_calls-append (plain_calls done.items done.responses) (plain_calls_of item reply) start.desk.plains)
       ∙ ap (λ (calls : List PlainCall). with_plain_calls calls start.desk.plains)
-      (sym (plains_one newcomer done.items done.asked done.told client item reply done.answers))));
+      (sym (plains_one newcomer done.items done.asked done.responses client item reply done.answers))));
   first = first_one done.given done.items item done.size taken done.first stands;
-  answers = all_one newcomer done.items done.asked done.told client item calls reply new done.answers answers;
+  answers = all_one newcomer done.items done.asked done.responses client item calls reply new done.answers answers;
   read_faults = done.read_faults;
   write_faults = done.write_faults;
 }
@@ -171,7 +171,7 @@ done_sent start reads old new desk client bytes gains up done = record {
   given = done.given;
   items = done.items;
   size = done.size;
-  told = done.told;
+  responses = done.responses;
   asked = done.asked;
   sent = done.sent ++ bytes;
   gives = done.gives;
@@ -187,11 +187,11 @@ done_sent start reads old new desk client bytes gains up done = record {
 }
 
 -- an item that stood first was taken and answered
-pub record Answered (before after : DeskSide) (old new : Serving) (reply : Told) : Type 0 where
+pub record Answered (before after : DeskSide) (old new : Serving) (reply : Response) : Type 0 where
   pub item : Item
   pub taken : ℕ
-  pub calls : List Call
-  pub stands : Stands old.framer.rest item taken
+  pub calls : List Exchange
+  pub stands : IsFirst old.framer.rest item taken
   pub framer : new.framer ≡ past old.framer taken
   pub asks : after.calls ≡ with_calls calls before.calls
   pub tended : after.tends ≡ one_more before.tends
@@ -199,17 +199,17 @@ pub record Answered (before after : DeskSide) (old new : Serving) (reply : Told)
   pub answers : ItemAnswers old.client item calls reply new.client
   pub count : new.count ≡ old.count + 1
 
-course_one : (start : Start) (rounds : ℕ) (reads : ReadSide) (writes new_writes : WriteSide) (before after : DeskSide) (old new : Serving) (reply : Told)
-    → Answered before after old new reply → new.count < budget → Sends writes new_writes (old.out ++ told_text reply) new.out
+course_one : (start : Start) (rounds : ℕ) (reads : ReadSide) (writes new_writes : WriteSide) (before after : DeskSide) (old new : Serving) (reply : Response)
+    → Answered before after old new reply → new.count < budget → Sends writes new_writes (old.out ++ response_text reply) new.out
     → Course start rounds reads writes before old → Course start rounds reads new_writes after new
 course_one start rounds reads writes new_writes before after old new reply a few s c =
-    let stands = subst (λ (bytes : List ℕ). Stands bytes a.item a.taken) c.rest a.stands in
+    let stands = subst (λ (bytes : List ℕ). IsFirst bytes a.item a.taken) c.rest a.stands in
     record {
       done = done_sent start reads writes new_writes after new.client s.sent s.gains (omega (arith, s.no_fault))
           (done_one start reads writes before after old.client new.client c.done a.item a.taken a.calls reply stands a.asks a.tended a.plains a.answers);
       within = omega (arith, length-append c.done.items (a.item ∷ []), a.count, c.count);
       count = omega (arith, length-append c.done.items (a.item ∷ []), a.count, c.count);
-      due = due_more c.done.told reply c.done.sent old.out c.due ∙ due_sent c.done.sent s.sent new.out (old.out ++ told_text reply) s.all;
+      due = due_more c.done.responses reply c.done.sent old.out c.due ∙ due_sent c.done.sent s.sent new.out (old.out ++ response_text reply) s.all;
       rest = ap (λ (f : Frames). f.rest) a.framer ∙ (ap (λ (bytes : List ℕ). drop a.taken bytes) c.rest ∙ drop-drop a.taken c.done.size c.done.given);
       place = ap (λ (f : Frames). f.place) a.framer ∙ place_more c.done.size a.taken old.framer.place (2 ^ 64 - 1) c.place;
       fed = c.fed;
@@ -219,70 +219,70 @@ course_one start rounds reads writes new_writes before after old new reply a few
     }
 
 -- a beginning of what is due was sent or waits
-some_due : (told : List Told) (reply : Told) (front old : List ℕ) (writes new_writes : WriteSide) (waits : List ℕ)
-    → texts told ≡ front ++ old → (s : SendsSome writes new_writes (old ++ told_text reply) waits)
-    → TookSome ((front ++ s.sent) ++ waits) (told ++ reply ∷ [])
-some_due told reply front old writes new_writes waits due s =
-    (s.lost, due_more told reply front old due ∙ due_lost front s.sent waits s.lost (old ++ told_text reply) s.some)
+some_due : (responses : List Response) (reply : Response) (front old : List ℕ) (writes new_writes : WriteSide) (waits : List ℕ)
+    → texts responses ≡ front ++ old → (s : SendsSome writes new_writes (old ++ response_text reply) waits)
+    → TookSome ((front ++ s.sent) ++ waits) (responses ++ reply ∷ [])
+some_due responses reply front old writes new_writes waits due s =
+    (s.lost, due_more responses reply front old due ∙ due_lost front s.sent waits s.lost (old ++ response_text reply) s.some)
 
 -- behind its last item a connection ends
 ending_one : (end : LineEnd) (start : Start) (rounds : ℕ) (reads : ReadSide) (writes new_writes : WriteSide) (before after : DeskSide)
-    (old new : Serving) (reply : Told)
+    (old new : Serving) (reply : Response)
     → Answered before after old new reply → Tells (Err end) reply writes new_writes old.out new
     → Course start rounds reads writes before old → Ending end start reads new_writes after new
 ending_one ends.Budget start rounds reads writes new_writes before after old new reply a stops c =
-    let stands = subst (λ (bytes : List ℕ). Stands bytes a.item a.taken) c.rest a.stands in
+    let stands = subst (λ (bytes : List ℕ). IsFirst bytes a.item a.taken) c.rest a.stands in
     let s = stops.1 in
     record {
       done = done_sent start reads writes new_writes after new.client s.sent s.gains (omega (arith, s.no_fault))
           (done_one start reads writes before after old.client new.client c.done a.item a.taken a.calls reply stands a.asks a.tended a.plains a.answers);
       ends = (
         omega (arith, length-append c.done.items (a.item ∷ []), a.count, c.count, stops.0),
-        sym (due_more c.done.told reply c.done.sent old.out c.due ∙ due_sent c.done.sent s.sent new.out (old.out ++ told_text reply) s.all),
+        sym (due_more c.done.responses reply c.done.sent old.out c.due ∙ due_sent c.done.sent s.sent new.out (old.out ++ response_text reply) s.all),
       );
       counts = (c.no_read_fault, s.no_fault ∙ c.no_write_fault);
       none_left = tt;
     }
 ending_one ends.Memory start rounds reads writes new_writes before after old new reply a stops c =
-    let stands = subst (λ (bytes : List ℕ). Stands bytes a.item a.taken) c.rest a.stands in
+    let stands = subst (λ (bytes : List ℕ). IsFirst bytes a.item a.taken) c.rest a.stands in
     let within = c.within in
     record {
       done = done_sent start reads writes new_writes after new.client stops.0.sent stops.0.gains (omega (arith, stops.1))
           (done_one start reads writes before after old.client new.client c.done a.item a.taken a.calls reply stands a.asks a.tended a.plains a.answers);
       ends = (
         omega (arith, length-append c.done.items (a.item ∷ [])),
-        inl (some_due c.done.told reply c.done.sent old.out writes new_writes new.out c.due stops.0),
+        inl (some_due c.done.responses reply c.done.sent old.out writes new_writes new.out c.due stops.0),
       );
       counts = (c.no_read_fault, stops.1 ∙ c.no_write_fault);
       none_left = tt;
     }
 ending_one ends.WriteFault start rounds reads writes new_writes before after old new reply a stops c =
-    let stands = subst (λ (bytes : List ℕ). Stands bytes a.item a.taken) c.rest a.stands in
+    let stands = subst (λ (bytes : List ℕ). IsFirst bytes a.item a.taken) c.rest a.stands in
     let within = c.within in
     record {
       done = done_sent start reads writes new_writes after new.client stops.0.sent stops.0.gains stops.2
           (done_one start reads writes before after old.client new.client c.done a.item a.taken a.calls reply stands a.asks a.tended a.plains a.answers);
       ends = (
         omega (arith, length-append c.done.items (a.item ∷ [])),
-        inl (some_due c.done.told reply c.done.sent old.out writes new_writes new.out c.due stops.0),
+        inl (some_due c.done.responses reply c.done.sent old.out writes new_writes new.out c.due stops.0),
       );
       counts = (c.done.read_faults, Rose-later start.writes.faults writes.faults new_writes.faults c.done.write_faults stops.1);
       none_left = tt;
     }
 ending_one other start rounds reads writes new_writes before after old new reply a stops c = absurd stops
 
-pub tells_within : (result : Result Bool LineEnd) (reply : Told) (before after : WriteSide) (waited : List ℕ) (new : Serving)
+pub tells_within : (result : Result Bool LineEnd) (reply : Response) (before after : WriteSide) (waited : List ℕ) (new : Serving)
     → Tells result reply before after waited new → OnOk result (new.count < 1000000)
 tells_within (Ok more) reply before after waited new t = t.1
 tells_within (Err end) reply before after waited new t = tt
 
-pub tells_more : (result : Result Bool LineEnd) (reply : Told) (before after : WriteSide) (waited : List ℕ) (new : Serving)
+pub tells_more : (result : Result Bool LineEnd) (reply : Response) (before after : WriteSide) (waited : List ℕ) (new : Serving)
     → Tells result reply before after waited new → result ≡ Ok false → ⊥
 tells_more (Ok more) reply before after waited new t e = let is = t.0 in absurd cc
 tells_more (Err end) reply before after waited new t e = absurd cc
 
 pub answered_goes_on : (result : Result Bool LineEnd) (reads new_reads : ReadSide) (writes new_writes : WriteSide) (before after : DeskSide)
-    (old new : Serving) (reply : Told)
+    (old new : Serving) (reply : Response)
     → Tells result reply writes new_writes old.out new → new_reads ≡ reads → Answered before after old new reply
     → OnOk result ((start : Start) (rounds : ℕ)
     → Course start rounds reads writes before old → Course start rounds new_reads new_writes after new)
@@ -292,7 +292,7 @@ answered_goes_on (Ok more) reads new_reads writes new_writes before after old ne
 answered_goes_on (Err end) reads new_reads writes new_writes before after old new reply t apart a = tt
 
 pub answered_ends : (result : Result Bool LineEnd) (reads new_reads : ReadSide) (writes new_writes : WriteSide) (before after : DeskSide)
-    (old new : Serving) (reply : Told)
+    (old new : Serving) (reply : Response)
     → Tells result reply writes new_writes old.out new → new_reads ≡ reads → Answered before after old new reply
     → IfErr result (λ end. (start : Start) (rounds : ℕ)
     → Course start rounds reads writes before old → Ending end start new_reads new_writes after new)
@@ -318,7 +318,7 @@ next_fault old new r found fault a is same =
 pub bad_line_answered : (before after : DeskSide) (old new : Serving) (place : ℕ) (frames : Frames)
     → Faults old.framer (frame.BadLine place) frames → new.framer ≡ frames → after.calls ≡ before.calls → after.tends ≡ one_more before.tends
     → after.plains ≡ before.plains → new.client ≡ old.client → new.count ≡ old.count + 1
-    → Answered before after old new (Lease reply.BadLine)
+    → Answered before after old new (Lease LineReply.BadLine)
 bad_line_answered before after old new place frames f framer asks tended plains client count = record {
   item = bad_line;
   taken = f.1.taken;
@@ -342,7 +342,7 @@ course_same : (start : Start) (rounds : ℕ) (reads : ReadSide) (writes new_writ
     → new_writes.faults ≡ writes.faults → new.framer ≡ old.framer → new.client ≡ old.client → new.count ≡ old.count
     → (course : Course start rounds reads writes desk old)
     → done.given ≡ course.done.given → done.items ≡ course.done.items → done.size ≡ course.done.size
-    → texts done.told ≡ done.sent ++ new.out
+    → texts done.responses ≡ done.sent ++ new.out
     → Course start rounds reads new_writes desk new
 course_same start rounds reads writes new_writes desk old new done same framer client count c given items size due =
     subst (λ (x : Client). Course start rounds reads new_writes desk (with_client new x)) (sym client) (record {
@@ -378,8 +378,8 @@ course_flushed start rounds reads writes new_writes desk old new gains same none
     (c.due ∙ (sym (append-nil (c.done.sent ++ old.out)) ∙ ap (λ (xs : List ℕ). (c.done.sent ++ old.out) ++ xs) (sym none)))
 
 -- a beginning of what stands to be written was taken
-some_of : (told : List Told) (sent out : List ℕ) (written : ℕ) → texts told ≡ sent ++ out → TookSome ((sent ++ take written out) ++ []) told
-some_of told sent out written due = (
+some_of : (responses : List Response) (sent out : List ℕ) (written : ℕ) → texts responses ≡ sent ++ out → TookSome ((sent ++ take written out) ++ []) responses
+some_of responses sent out written due = (
   drop written out,
   due ∙ (ap (λ (xs : List ℕ). sent ++ xs) (sym (take-append-drop written out))
       ∙ (sym (append_assoc sent (take written out) (drop written out))
@@ -396,8 +396,8 @@ ending_write start rounds reads writes new_writes desk old new written gains ros
       done = done_sent start reads writes new_writes desk old.client (take written old.out) gains up c.done;
       ends = (
         omega arith,
-        inl (subst (λ (xs : List ℕ). TookSome ((c.done.sent ++ take written old.out) ++ xs) c.done.told) (sym none)
-            (some_of c.done.told c.done.sent old.out written c.due)),
+        inl (subst (λ (xs : List ℕ). TookSome ((c.done.sent ++ take written old.out) ++ xs) c.done.responses) (sym none)
+            (some_of c.done.responses c.done.sent old.out written c.due)),
       );
       counts = (c.done.read_faults, Rose-later start.writes.faults writes.faults new_writes.faults c.done.write_faults rose);
       none_left = tt;
@@ -432,27 +432,27 @@ flushed_ends (Err end) reads new_reads writes new_writes old new f apart none cl
 -- a connection ends without a further reply
 ending_here : (end : LineEnd) (start : Start) (rounds : ℕ) (reads : ReadSide) (writes : WriteSide) (desk : DeskSide) (old new : Serving)
     → new.out ≡ old.out → new.client ≡ old.client → (c : Course start rounds reads writes desk old)
-    → EndsSo end c.done.items c.done.size (drop c.done.size c.done.given) (c.done.sent ++ old.out) c.done.told
+    → EndsSo end c.done.items c.done.size (drop c.done.size c.done.given) (c.done.sent ++ old.out) c.done.responses
     → CountsAt end start reads writes → NoneLeft end reads.left
     → Ending end start reads writes desk new
 ending_here end start rounds reads writes desk old new out client c e counts none =
     subst (λ (x : Client). Ending end start reads writes desk (with_client new x)) (sym client) (record {
       done = c.done;
-      ends = subst (λ (xs : List ℕ). EndsSo end c.done.items c.done.size (drop c.done.size c.done.given) (c.done.sent ++ xs) c.done.told) (sym out) e;
+      ends = subst (λ (xs : List ℕ). EndsSo end c.done.items c.done.size (drop c.done.size c.done.given) (c.done.sent ++ xs) c.done.responses) (sym out) e;
       counts = counts;
       none_left = none;
     })
 
 pub ending_quit : (start : Start) (rounds : ℕ) (reads : ReadSide) (writes : WriteSide) (desk : DeskSide) (old new : Serving) (taken : ℕ)
-    → Stands old.framer.rest (command Quit) taken → new.out ≡ old.out → new.client ≡ old.client
+    → IsFirst old.framer.rest (command Quit) taken → new.out ≡ old.out → new.client ≡ old.client
     → Course start rounds reads writes desk old → Ending ends.Quit start reads writes desk new
 ending_quit start rounds reads writes desk old new taken stands out client c =
     ending_here ends.Quit start rounds reads writes desk old new out client c
-    (c.within, (taken, subst (λ (bytes : List ℕ). Stands bytes (command Quit) taken) c.rest stands), sym c.due) (c.no_read_fault, c.no_write_fault) tt
+    (c.within, (taken, subst (λ (bytes : List ℕ). IsFirst bytes (command Quit) taken) c.rest stands), sym c.due) (c.no_read_fault, c.no_write_fault) tt
 
 -- a beginning of the replies stands to be written
-all_due : (told : List Told) (taken : List ℕ) → texts told ≡ taken → TookSome taken told
-all_due told taken due = ([], due ∙ sym (append-nil taken))
+all_due : (responses : List Response) (taken : List ℕ) → texts responses ≡ taken → TookSome taken responses
+all_due responses taken due = ([], due ∙ sym (append-nil taken))
 
 pub ending_memory : (start : Start) (rounds : ℕ) (reads : ReadSide) (writes : WriteSide) (desk : DeskSide) (old new : Serving)
     → new.out ≡ old.out → new.client ≡ old.client
@@ -460,10 +460,10 @@ pub ending_memory : (start : Start) (rounds : ℕ) (reads : ReadSide) (writes : 
 ending_memory start rounds reads writes desk old new out client c =
     let within = c.within in
     ending_here ends.Memory start rounds reads writes desk old new out client c
-    (omega arith, inl (all_due c.done.told (c.done.sent ++ old.out) c.due)) (c.no_read_fault, c.no_write_fault) tt
+    (omega arith, inl (all_due c.done.responses (c.done.sent ++ old.out) c.due)) (c.no_read_fault, c.no_write_fault) tt
 
 -- a fault that lasts was told, or a beginning of that
-shut_ends : (end : LineEnd) (fault : FrameFault) (last : Told) (start : Start) (rounds : ℕ) (reads : ReadSide) (writes new_writes : WriteSide)
+shut_ends : (end : LineEnd) (fault : FrameFault) (last : Response) (start : Start) (rounds : ℕ) (reads : ReadSide) (writes new_writes : WriteSide)
     (desk : DeskSide) (old new : Serving)
     → Lasts old.framer.rest fault last → place_of fault ≡ old.framer.place → Shuts end fault last writes new_writes old.out new.out → new.client ≡ old.client
     → Course start rounds reads writes desk old → Ending end start reads new_writes desk new
@@ -478,7 +478,7 @@ shut_ends (ends.Shut found) fault last start rounds reads writes new_writes desk
         (
           last,
           subst (λ (bytes : List ℕ). Lasts bytes fault last) c.rest lasts,
-          sym (due_more c.done.told last c.done.sent old.out c.due ∙ due_sent c.done.sent s.sent new.out (old.out ++ told_text last) s.all),
+          sym (due_more c.done.responses last c.done.sent old.out c.due ∙ due_sent c.done.sent s.sent new.out (old.out ++ response_text last) s.all),
         ),
       );
       counts = (c.no_read_fault, s.no_fault ∙ c.no_write_fault);
@@ -494,7 +494,7 @@ shut_ends ends.Memory fault last start rounds reads writes new_writes desk old n
           fault = fault;
           last = last;
           lasts = subst (λ (bytes : List ℕ). Lasts bytes fault last) c.rest lasts;
-          some = some_due c.done.told last c.done.sent old.out writes new_writes new.out c.due shuts.0;
+          some = some_due c.done.responses last c.done.sent old.out writes new_writes new.out c.due shuts.0;
         }),
       );
       counts = (c.no_read_fault, shuts.1 ∙ c.no_write_fault);
@@ -510,7 +510,7 @@ shut_ends ends.WriteFault fault last start rounds reads writes new_writes desk o
           fault = fault;
           last = last;
           lasts = subst (λ (bytes : List ℕ). Lasts bytes fault last) c.rest lasts;
-          some = some_due c.done.told last c.done.sent old.out writes new_writes new.out c.due shuts.0;
+          some = some_due c.done.responses last c.done.sent old.out writes new_writes new.out c.due shuts.0;
         }),
       );
       counts = (c.done.read_faults, Rose-later start.writes.faults writes.faults new_writes.faults c.done.write_faults shuts.1);
@@ -518,7 +518,7 @@ shut_ends ends.WriteFault fault last start rounds reads writes new_writes desk o
     })
 shut_ends other fault last start rounds reads writes new_writes desk old new lasts place shuts client c = absurd shuts
 
-pub shut_by : (end : LineEnd) (fault found : FrameFault) (last : Told) (start : Start) (rounds : ℕ) (reads new_reads : ReadSide)
+pub shut_by : (end : LineEnd) (fault found : FrameFault) (last : Response) (start : Start) (rounds : ℕ) (reads new_reads : ReadSide)
     (writes new_writes : WriteSide) (desk : DeskSide) (old new : Serving)
     → fault ≡ found → Lasts old.framer.rest found last → place_of found ≡ old.framer.place
     → Shuts end fault last writes new_writes old.out new.out → new_reads ≡ reads
@@ -532,20 +532,20 @@ shut_by end fault found last start rounds reads new_reads writes new_writes desk
 pub shut_by_fault : (end : LineEnd) (fault : FrameFault) (start : Start) (rounds : ℕ) (reads new_reads : ReadSide)
     (writes new_writes : WriteSide) (desk : DeskSide) (old new : Serving) (frames : Frames)
     → ((place : ℕ) × (fault ≡ frame.LongLine place)) ⊎ (((place : ℕ) × (fault ≡ frame.BadBlock place)) ⊎ ((place : ℕ) × (fault ≡ frame.BigBlock place)))
-    → Faults old.framer fault frames → Shuts end fault (frame_told fault) writes new_writes old.out new.out → new_reads ≡ reads
+    → Faults old.framer fault frames → Shuts end fault (frame_response fault) writes new_writes old.out new.out → new_reads ≡ reads
     → new.client ≡ old.client → Course start rounds reads writes desk old → Ending end start new_reads new_writes desk new
 shut_by_fault end fault start rounds reads new_reads writes new_writes desk old new frames (inl (place, is)) f s apart client c =
     let g : Faults old.framer (frame.LongLine place) frames = subst (λ (x : FrameFault). Faults old.framer x frames) is f in
-    shut_by end fault (frame.LongLine place) (Lease reply.LongLine) start rounds reads new_reads writes new_writes desk old new is (g.1, refl) g.0
-    (subst (λ (x : FrameFault). Shuts end fault (frame_told x) writes new_writes old.out new.out) is s) apart client c
+    shut_by end fault (frame.LongLine place) (Lease LineReply.LongLine) start rounds reads new_reads writes new_writes desk old new is (g.1, refl) g.0
+    (subst (λ (x : FrameFault). Shuts end fault (frame_response x) writes new_writes old.out new.out) is s) apart client c
 shut_by_fault end fault start rounds reads new_reads writes new_writes desk old new frames (inr (inl (place, is))) f s apart client c =
     let g : Faults old.framer (frame.BadBlock place) frames = subst (λ (x : FrameFault). Faults old.framer x frames) is f in
-    shut_by end fault (frame.BadBlock place) (Lease reply.BadBlock) start rounds reads new_reads writes new_writes desk old new is (g.1, refl) g.0
-    (subst (λ (x : FrameFault). Shuts end fault (frame_told x) writes new_writes old.out new.out) is s) apart client c
+    shut_by end fault (frame.BadBlock place) (Lease LineReply.BadBlock) start rounds reads new_reads writes new_writes desk old new is (g.1, refl) g.0
+    (subst (λ (x : FrameFault). Shuts end fault (frame_response x) writes new_writes old.out new.out) is s) apart client c
 shut_by_fault end fault start rounds reads new_reads writes new_writes desk old new frames (inr (inr (place, is))) f s apart client c =
     let g : Faults old.framer (frame.BigBlock place) frames = subst (λ (x : FrameFault). Faults old.framer x frames) is f in
-    shut_by end fault (frame.BigBlock place) (Lease reply.BigBlock) start rounds reads new_reads writes new_writes desk old new is (g.1, refl) g.0
-    (subst (λ (x : FrameFault). Shuts end fault (frame_told x) writes new_writes old.out new.out) is s) apart client c
+    shut_by end fault (frame.BigBlock place) (Lease LineReply.BigBlock) start rounds reads new_reads writes new_writes desk old new is (g.1, refl) g.0
+    (subst (λ (x : FrameFault). Shuts end fault (frame_response x) writes new_writes old.out new.out) is s) apart client c
 
 -- more bytes were given
 abbrev done_fed : (start : Start) (old new : ReadSide) (writes : WriteSide) (desk : DeskSide) (client : Client) (bytes : List ℕ)
@@ -555,7 +555,7 @@ done_fed start old new writes desk client bytes gives adds same done = record {
   given = done.given ++ bytes;
   items = done.items;
   size = done.size;
-  told = done.told;
+  responses = done.responses;
   asked = done.asked;
   sent = done.sent;
   gives = Takes-append start.reads.left old.left new.left done.given bytes done.gives gives;
@@ -627,7 +627,7 @@ ending_unfed start rounds reads new_reads writes desk old new bytes r out client
       done = done_fed start reads new_reads writes desk old.client bytes r.gives r.adds r.same c.done;
       ends = (
         omega arith,
-        inl (all_due c.done.told (c.done.sent ++ new.out) (c.due ∙ ap (λ (xs : List ℕ). c.done.sent ++ xs) (sym out))),
+        inl (all_due c.done.responses (c.done.sent ++ new.out) (c.due ∙ ap (λ (xs : List ℕ). c.done.sent ++ xs) (sym out))),
       );
       counts = (r.same ∙ c.no_read_fault, c.no_write_fault);
       none_left = tt;
@@ -641,7 +641,7 @@ done_stays start old new writes desk client same given up done = record {
   given = done.given;
   items = done.items;
   size = done.size;
-  told = done.told;
+  responses = done.responses;
   asked = done.asked;
   sent = done.sent;
   gives = subst (λ (left : Option (List ℕ)). Takes start.reads.left left done.given) (sym same) done.gives;
@@ -699,7 +699,7 @@ course_begins reads writes desk serving fresh =
         given = [];
         items = [];
         size = 0;
-        told = [];
+        responses = [];
         asked = [];
         sent = [];
         gives = Takes-none reads.left;
@@ -730,37 +730,37 @@ pub rounds_end : (start : Start) (rounds : ℕ) (reads : ReadSide) (writes : Wri
 rounds_end start rounds reads writes desk serving c many = let few = c.few in absurd (omega arith)
 
 -- at every end the line took a beginning of what is due
-ends_some : (end : LineEnd) (items : List Item) (size : ℕ) (rest taken : List ℕ) (told : List Told)
-    → EndsSo end items size rest taken told → (length items ≤ budget) × (TookSome taken told ⊎ TookToFault rest taken told)
-ends_some ends.Quit items size rest taken told e = let within = e.0 in (omega arith, inl (all_due told taken (sym e.2)))
-ends_some (ends.Closed left) items size rest taken told e = let within = e.0 in (omega arith, inl (all_due told taken (sym e.3)))
-ends_some (ends.Shut fault) items size rest taken told e =
+ends_some : (end : LineEnd) (items : List Item) (size : ℕ) (rest taken : List ℕ) (responses : List Response)
+    → EndsSo end items size rest taken responses → (length items ≤ budget) × (TookSome taken responses ⊎ TookToFault rest taken responses)
+ends_some ends.Quit items size rest taken responses e = let within = e.0 in (omega arith, inl (all_due responses taken (sym e.2)))
+ends_some (ends.Closed left) items size rest taken responses e = let within = e.0 in (omega arith, inl (all_due responses taken (sym e.3)))
+ends_some (ends.Shut fault) items size rest taken responses e =
     let within = e.0 in
     let last = e.2 in
-    (omega arith, inr (record { fault = fault; last = last.0; lasts = last.1; some = all_due (told ++ last.0 ∷ []) taken (sym last.2) }))
-ends_some ends.Budget items size rest taken told e = (omega (arith, e.0), inl (all_due told taken (sym e.1)))
-ends_some ends.ReadFault items size rest taken told e = let within = e.0 in (omega arith, inl (all_due told taken (sym e.2)))
-ends_some ends.WriteFault items size rest taken told e = e
-ends_some ends.Memory items size rest taken told e = e
+    (omega arith, inr (record { fault = fault; last = last.0; lasts = last.1; some = all_due (responses ++ last.0 ∷ []) taken (sym last.2) }))
+ends_some ends.Budget items size rest taken responses e = (omega (arith, e.0), inl (all_due responses taken (sym e.1)))
+ends_some ends.ReadFault items size rest taken responses e = let within = e.0 in (omega arith, inl (all_due responses taken (sym e.2)))
+ends_some ends.WriteFault items size rest taken responses e = e
+ends_some ends.Memory items size rest taken responses e = e
 
 -- a beginning of that
-some_less : (told : List Told) (sent out : List ℕ) (written : ℕ) → TookSome (sent ++ out) told → TookSome (sent ++ take written out) told
-some_less told sent out written t = (
+some_less : (responses : List Response) (sent out : List ℕ) (written : ℕ) → TookSome (sent ++ out) responses → TookSome (sent ++ take written out) responses
+some_less responses sent out written t = (
   drop written out ++ t.0,
   t.1 ∙ (ap (λ (xs : List ℕ). (sent ++ xs) ++ t.0) (sym (take-append-drop written out))
       ∙ (ap (λ (xs : List ℕ). xs ++ t.0) (sym (append_assoc sent (take written out) (drop written out)))
       ∙ append_assoc (sent ++ take written out) (drop written out) t.0)),
 )
 
-ends_less : (items : List Item) (size : ℕ) (rest sent out : List ℕ) (told : List Told) (written : ℕ)
-    → (length items ≤ budget) × (TookSome (sent ++ out) told ⊎ TookToFault rest (sent ++ out) told)
-    → EndsSo ends.WriteFault items size rest (sent ++ take written out) told
-ends_less items size rest sent out told written e = (e.0, by e.1)
+ends_less : (items : List Item) (size : ℕ) (rest sent out : List ℕ) (responses : List Response) (written : ℕ)
+    → (length items ≤ budget) × (TookSome (sent ++ out) responses ⊎ TookToFault rest (sent ++ out) responses)
+    → EndsSo ends.WriteFault items size rest (sent ++ take written out) responses
+ends_less items size rest sent out responses written e = (e.0, by e.1)
   where
-    by : TookSome (sent ++ out) told ⊎ TookToFault rest (sent ++ out) told
-        → TookSome (sent ++ take written out) told ⊎ TookToFault rest (sent ++ take written out) told
-    by (inl t) = inl (some_less told sent out written t)
-    by (inr t) = inr (record { fault = t.fault; last = t.last; lasts = t.lasts; some = some_less (told ++ t.last ∷ []) sent out written t.some })
+    by : TookSome (sent ++ out) responses ⊎ TookToFault rest (sent ++ out) responses
+        → TookSome (sent ++ take written out) responses ⊎ TookToFault rest (sent ++ take written out) responses
+    by (inl t) = inl (some_less responses sent out written t)
+    by (inr t) = inr (record { fault = t.fault; last = t.last; lasts = t.lasts; some = some_less (responses ++ t.last ∷ []) sent out written t.some })
 
 -- what stands of a connection at its end, by what its line and its desk tell
 pub record Finished (start : Start) (reads : ReadSide) (writes : WriteSide) (desk : DeskSide) (end : LineEnd) : Type 0 where
@@ -773,7 +773,7 @@ finished_by : (end : LineEnd) (start : Start) (reads : ReadSide) (writes new_wri
     (serving : Serving) (bytes : List ℕ)
     → (done : Done start reads writes desk serving.client)
     → Gains writes.taken new_writes.taken bytes → writes.faults ≤ new_writes.faults
-    → EndsSo end done.items done.size (drop done.size done.given) (done.sent ++ bytes) done.told
+    → EndsSo end done.items done.size (drop done.size done.given) (done.sent ++ bytes) done.responses
     → CountsAt end start reads new_writes → NoneLeft end reads.left
     → GivenUp desk.calls new_desk.calls serving.client → new_desk.tends ≡ desk.tends → new_desk.plains ≡ desk.plains
     → Finished start reads new_writes new_desk end
@@ -782,19 +782,19 @@ finished_by end start reads writes new_writes desk new_desk serving bytes done g
     given = done.given;
     taken = done.sent ++ bytes;
     calls = done.asked ++ up_given.calls;
-    plains = plain_calls done.items done.told;
+    plains = plain_calls done.items done.responses;
     gives = done.gives;
     adds = done.adds;
     takes = Gains-append start.writes.taken writes.taken new_writes.taken done.sent bytes done.takes gains;
     asks = up_given.record_is
-        ∙ (ap (λ (calls : Option (List Call)). with_calls up_given.calls calls) done.asks
+        ∙ (ap (λ (calls : Option (List Exchange)). with_calls up_given.calls calls) done.asks
         ∙ sym (with_calls-append done.asked up_given.calls start.desk.calls));
     asks_plain = unasked ∙ done.asks_plain;
     tended = untended ∙ done.tended;
     served = record {
       items = done.items;
       size = done.size;
-      told = done.told;
+      responses = done.responses;
       asked = done.asked;
       client = serving.client;
       closing = up_given.calls;
@@ -802,7 +802,7 @@ finished_by end start reads writes new_writes desk new_desk serving bytes done g
       first = done.first;
       answers = done.answers;
       leaves = up_given.leaves;
-      held = only_writers_hold newcomer serving.client done.items done.asked done.told done.answers (λ none. refl);
+      held = only_writers_hold newcomer serving.client done.items done.asked done.responses done.answers (λ none. refl);
       calls_are = refl;
       plains_are = refl;
       ends = e;
@@ -831,8 +831,8 @@ finished due end start reads new_reads writes new_writes desk new_desk serving e
     (counts_on due start reads writes new_writes f.1 e.counts) e.none_left up untended unasked))
 finished due end start reads new_reads writes new_writes desk new_desk serving e (inr f) apart up untended unasked =
     let bytes = take f.0.0 serving.out in
-    let less = ends_less e.done.items e.done.size (drop e.done.size e.done.given) e.done.sent serving.out e.done.told f.0.0
-    (ends_some due e.done.items e.done.size (drop e.done.size e.done.given) (e.done.sent ++ serving.out) e.done.told e.ends) in
+    let less = ends_less e.done.items e.done.size (drop e.done.size e.done.given) e.done.sent serving.out e.done.responses f.0.0
+    (ends_some due e.done.items e.done.size (drop e.done.size e.done.given) (e.done.sent ++ serving.out) e.done.responses e.ends) in
     subst (λ (r : ReadSide). Finished start r new_writes new_desk end) (sym apart)
     (subst (λ (x : LineEnd). Finished start reads new_writes new_desk x) (sym f.3)
     (finished_by ends.WriteFault start reads writes new_writes desk new_desk serving bytes e.done f.0.1 f.2 less
@@ -855,7 +855,7 @@ never_served reads writes desk = record {
   served = record {
     items = [];
     size = 0;
-    told = [];
+    responses = [];
     asked = [];
     client = newcomer;
     closing = [];

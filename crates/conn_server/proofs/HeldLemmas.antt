@@ -4,7 +4,7 @@ use Rattle.std.proofs.lemmas.Bool.{eqb-true}
 use Rattle.rows_model.specs.declared.keys.Sid.{Sid}
 use Rattle.key_shard.specs.Permit.{Permit}
 use Rattle.session_client.specs.Belongs.{Belongs}
-use Rattle.session_client.specs.Desks.{Call}
+use Rattle.session_client.specs.Desks.{Exchange}
 use Rattle.session_client.specs.declared.replies.Reply.{Reply}
 use Rattle.session_client.specs.declared.replies.Reply.TheVariants as desk
 use Rattle.session_client.specs.declared.replies.Wanted.{Wanted}
@@ -16,8 +16,8 @@ use Rattle.mc_text.specs.declared.commands.Role.{Role}
 use Rattle.mc_text.specs.declared.replies.LineReply.{LineReply}
 use Rattle.conn_server.specs.declared.clients.Client.{Client}
 use Rattle.conn_server.specs.declared.clients.Present.{Present}
-use Rattle.conn_server.specs.declared.outgoing.Told.{Told}
-use Rattle.conn_server.specs.declared.outgoing.Told.TheVariants as outgoing
+use Rattle.conn_server.specs.declared.outgoing.Response.{Response}
+use Rattle.conn_server.specs.declared.outgoing.Response.TheVariants as outgoing
 use Rattle.mixed_lines.specs.Items.{Item, command, plain, bad_line}
 use Rattle.conn_server.specs.Answers.{Answers, AnswersBy, Does, Requests, ItemAnswers, AllAnswer}
 use Rattle.conn_server.specs.Clients.{asker, is_open}
@@ -61,11 +61,11 @@ may_write client (commands.IqCommit key sid) e asks = abortable client (commands
 may_write client other e asks = absurd asks
 
 -- what answers a quarantine or a commit answers such a request
-quarantine_asks : (who : Sid) (asked : Wanted) (told : QAnswer) → Belongs who asked (desk.Quar told) → AsksWrite (Some asked)
-quarantine_asks who (wanted.QaReg key) told b = tt
-quarantine_asks who (wanted.QaRead key) told b = tt
-quarantine_asks who (wanted.Delta key by) told b = tt
-quarantine_asks who other told b = absurd b
+quarantine_asks : (who : Sid) (asked : Wanted) (answer : QAnswer) → Belongs who asked (desk.Quar answer) → AsksWrite (Some asked)
+quarantine_asks who (wanted.QaReg key) answer b = tt
+quarantine_asks who (wanted.QaRead key) answer b = tt
+quarantine_asks who (wanted.Delta key by) answer b = tt
+quarantine_asks who other answer b = absurd b
 
 -- a session that has committed may be aborted where it might before
 commits_too : (number : ℕ) (present : Option Present) → MayAbort present → MayAbort (commits number present)
@@ -81,8 +81,8 @@ none_more other = refl
 -- what a request leaves
 after_request : (old : Client) (said : Command) (asked : Wanted) (heard : Reply) → refused old said ≡ None → request old said ≡ Some asked
     → Belongs (asker old.present) asked heard → OnlyWritersHold old → OnlyWritersHold (client_after old said heard)
-after_request old said asked (desk.Quar told) e is b h =
-    λ none. absurd (none (may_write old said e (subst AsksWrite (sym is) (quarantine_asks (asker old.present) asked told b))))
+after_request old said asked (desk.Quar answer) e is b h =
+    λ none. absurd (none (may_write old said e (subst AsksWrite (sym is) (quarantine_asks (asker old.present) asked answer b))))
 after_request old said asked (desk.Committed number txn grants) e is b h = by asked is b
   where
     by : (asked : Wanted) → request old said ≡ Some asked → Belongs (asker old.present) asked (desk.Committed number txn grants)
@@ -95,42 +95,42 @@ after_request old said asked (desk.NotCommitted fault txn grants) e is b h = by 
         → OnlyWritersHold (client_after old said (desk.NotCommitted fault txn grants))
     by (wanted.Commit changes held) is b = λ none. absurd (none (may_write old said e (subst AsksWrite (sym is) tt)))
     by other is b = absurd b
-after_request old said asked (desk.Rel told) e is b h =
+after_request old said asked (desk.Rel answer) e is b h =
     λ none. ap (λ (grants : List Permit). grants_left said grants) (h none) ∙ none_more said
 after_request old said asked other e is b h = h
 
-after_requests : (old new : Client) (said : Command) (calls : List Call) (told : LineReply) → refused old said ≡ None → Requests old said calls told new
+after_requests : (old new : Client) (said : Command) (calls : List Exchange) (reply : LineReply) → refused old said ≡ None → Requests old said calls reply new
     → OnlyWritersHold old → OnlyWritersHold new
-after_requests old new said calls told e r h =
+after_requests old new said calls reply e r h =
     subst OnlyWritersHold (sym r.new_is) (after_request old said r.wanted r.heard e r.wanted_is r.belongs h)
 
 -- what a command leaves that isn't refused
-after_does : (old new : Client) (said : Command) (calls : List Call) (told : LineReply) → refused old said ≡ None → Does old said calls told new
+after_does : (old new : Client) (said : Command) (calls : List Exchange) (reply : LineReply) → refused old said ≡ None → Does old said calls reply new
     → OnlyWritersHold old → OnlyWritersHold new
-after_does old new (commands.Begin role) calls told e (inl (sid, asked, says, is)) h =
+after_does old new (commands.Begin role) calls reply e (inl (sid, asked, says, is)) h =
     subst OnlyWritersHold (sym is) (λ none. begins_free old role e)
-after_does old new (commands.Begin role) calls told e (inr (asked, says, is)) h = subst OnlyWritersHold (sym is) h
-after_does old new (commands.IqAbort sid) calls told e d h = subst OnlyWritersHold (sym d.new_is) (λ none. refl)
-after_does old new other calls told e d h = after_requests old new other calls told e d h
+after_does old new (commands.Begin role) calls reply e (inr (asked, says, is)) h = subst OnlyWritersHold (sym is) h
+after_does old new (commands.IqAbort sid) calls reply e d h = subst OnlyWritersHold (sym d.new_is) (λ none. refl)
+after_does old new other calls reply e d h = after_requests old new other calls reply e d h
 
-after_answer : (old new : Client) (said : Command) (calls : List Call) (told : LineReply) → Answers old said calls told new
+after_answer : (old new : Client) (said : Command) (calls : List Exchange) (reply : LineReply) → Answers old said calls reply new
     → OnlyWritersHold old → OnlyWritersHold new
-after_answer old new said calls told a h = by (refused old said) refl a
+after_answer old new said calls reply a h = by (refused old said) refl a
   where
-    by : (error : Option LineReply) → refused old said ≡ error → AnswersBy error old said calls told new → OnlyWritersHold new
+    by : (error : Option LineReply) → refused old said ≡ error → AnswersBy error old said calls reply new → OnlyWritersHold new
     by (Some refusal) e (asked, says, is) = subst OnlyWritersHold (sym is) h
-    by None e does = after_does old new said calls told e does h
+    by None e does = after_does old new said calls reply e does h
 
-after_item : (old new : Client) (item : Item) (calls : List Call) (heard : Told) → ItemAnswers old item calls heard new
+after_item : (old new : Client) (item : Item) (calls : List Exchange) (heard : Response) → ItemAnswers old item calls heard new
     → OnlyWritersHold old → OnlyWritersHold new
-after_item old new (command said) calls (outgoing.Lease told) a h = after_answer old new said calls told a h
-after_item old new (command said) calls (outgoing.Plain told noreply) a h = absurd a
+after_item old new (command said) calls (outgoing.Lease reply) a h = after_answer old new said calls reply a h
+after_item old new (command said) calls (outgoing.Plain reply noreply) a h = absurd a
 after_item old new (plain said noreply) calls heard (asked, says, is) h = subst OnlyWritersHold (sym is) h
 after_item old new bad_line calls heard (asked, says, is) h = subst OnlyWritersHold (sym is) h
 after_item old new other calls heard a h = absurd a
 
 -- whatever was answered, a client without a session that writes holds no grant
-pub only_writers_hold : (old new : Client) (items : List Item) (calls : List Call) (heard : List Told) → AllAnswer old items calls heard new
+pub only_writers_hold : (old new : Client) (items : List Item) (calls : List Exchange) (heard : List Response) → AllAnswer old items calls heard new
     → OnlyWritersHold old → OnlyWritersHold new
 only_writers_hold old new [] calls heard (asked, says, is) h = subst OnlyWritersHold (sym is) h
 only_writers_hold old new (item ∷ items) calls heard (first, others, one, more, next, step, rest, calls_are, heard_are) h =

@@ -9,12 +9,12 @@ use Rattle.iq_outside.proofs.OutsideLemmas.{Gains-append, Gains-none, Rose-later
 use Rattle.mc_text.specs.PlainReplies.{item_text, items_text, plain_text}
 use Rattle.mc_text.specs.declared.plain_replies.Found.{Found}
 use Rattle.mc_text.specs.declared.plain_replies.PlainReply.{PlainReply}
-use Rattle.mc_text.specs.declared.plain_replies.PlainReply.TheVariants as reply
+use Rattle.mc_text.specs.declared.plain_replies.PlainReply.TheVariants as PlainReply
 use Rattle.conn_server.specs.declared.ends.LineEnd.{LineEnd}
 use Rattle.conn_server.specs.declared.ends.LineEnd.TheVariants as ends
-use Rattle.conn_server.specs.declared.outgoing.Told.{Told}
-use Rattle.conn_server.specs.declared.outgoing.Told.TheVariants.{Lease, Plain}
-use Rattle.conn_server.specs.Outgoing.{told_text, end_text, HasNoItem}
+use Rattle.conn_server.specs.declared.outgoing.Response.{Response}
+use Rattle.conn_server.specs.declared.outgoing.Response.TheVariants.{Lease, Plain}
+use Rattle.conn_server.specs.Outgoing.{response_text, end_text, HasNoItem}
 use Rattle.conn_server.specs.Outbox.{IsPiece, WaitsFew, Sends, SendsSome, Stops, Puts, Flushes}
 
 -- nothing waits, or fewer bytes than those at which they are sent
@@ -34,16 +34,16 @@ waits_piece old new piece short is p = (old, short, inr (piece, p, is))
 pub waits_item : (is_told : Bool) (item : Found) (old new : List ℕ) → length old < 65536 → new ≡ old ++ item_text is_told item → WaitsFew new
 waits_item is_told item old new short is = waits_piece old new (item_text is_told item) short is (inl (item, is_told, refl))
 
-pub waits_whole : (heard : Told) (old new : List ℕ) → length old < 65536 → HasNoItem heard → new ≡ old ++ told_text heard → WaitsFew new
-waits_whole heard old new short none is = waits_piece old new (told_text heard) short is (inr (heard, none, refl))
+pub waits_whole : (heard : Response) (old new : List ℕ) → length old < 65536 → HasNoItem heard → new ≡ old ++ response_text heard → WaitsFew new
+waits_whole heard old new short none is = waits_piece old new (response_text heard) short is (inr (heard, none, refl))
 
 -- the line behind the last item is what is told where none was found
-no_items_text : end_text ≡ told_text (Plain (reply.Values []) false)
+no_items_text : end_text ≡ response_text (Plain (PlainReply.Values []) false)
 unfolding plain_text
 no_items_text = refl
 
 pub waits_end : (old new : List ℕ) → length old < 65536 → new ≡ old ++ end_text → WaitsFew new
-waits_end old new short is = waits_piece old new end_text short is (inr (Plain (reply.Values []) false, refl, no_items_text))
+waits_end old new short is = waits_piece old new end_text short is (inr (Plain (PlainReply.Values []) false, refl, no_items_text))
 
 -- what waited was sent whole, or a beginning of it
 pub flush_puts : {X : Type 0} (result : Result X LineEnd) (old new : WriteSide) (bytes waits : List ℕ)
@@ -182,38 +182,38 @@ items_end result is_told found i old mid new first waited waits all a b =
     rw (← append_assoc first every end_text) (puts_then result old mid new (first ++ every) waited end_text waits here b)
 
 -- what isn't the items that a `get` or a `gets` found tells none
-none_of : (answer : PlainReply) → ((found : List Found) → answer ≢ reply.Values found) → ((found : List Found) → answer ≢ reply.Uniques found)
+none_of : (answer : PlainReply) → ((found : List Found) → answer ≢ PlainReply.Values found) → ((found : List Found) → answer ≢ PlainReply.Uniques found)
     → HasNoItem (Plain answer false)
-none_of (reply.Values found) not_values not_uniques = absurd (not_values found refl)
-none_of (reply.Uniques found) not_values not_uniques = absurd (not_uniques found refl)
+none_of (PlainReply.Values found) not_values not_uniques = absurd (not_values found refl)
+none_of (PlainReply.Uniques found) not_values not_uniques = absurd (not_uniques found refl)
 none_of answer not_values not_uniques = tt
 
-pub no_item : (heard : Told) (answer : PlainReply) (noreply : Bool) → heard ≡ Plain answer noreply → noreply ≡ false
-    → ((found : List Found) → answer ≢ reply.Values found) → ((found : List Found) → answer ≢ reply.Uniques found) → HasNoItem heard
+pub no_item : (heard : Response) (answer : PlainReply) (noreply : Bool) → heard ≡ Plain answer noreply → noreply ≡ false
+    → ((found : List Found) → answer ≢ PlainReply.Values found) → ((found : List Found) → answer ≢ PlainReply.Uniques found) → HasNoItem heard
 no_item heard answer noreply is silent not_values not_uniques =
-    subst (λ (t : Told). HasNoItem t) (sym (is ∙ ap (λ (b : Bool). Plain answer b) silent)) (none_of answer not_values not_uniques)
+    subst (λ (t : Response). HasNoItem t) (sym (is ∙ ap (λ (b : Bool). Plain answer b) silent)) (none_of answer not_values not_uniques)
 
 -- the text of what was found
-values_so : (found : List Found) → items_text false found ≡ told_text (Plain (reply.Values found) false)
+values_so : (found : List Found) → items_text false found ≡ response_text (Plain (PlainReply.Values found) false)
 unfolding plain_text
 values_so found = refl
 
-pub values_text : (heard : Told) (answer : PlainReply) (found items : List Found) (noreply : Bool)
-    → heard ≡ Plain answer noreply → answer ≡ reply.Values found → noreply ≡ false → items ≡ found → items_text false items ≡ told_text heard
+pub values_text : (heard : Response) (answer : PlainReply) (found items : List Found) (noreply : Bool)
+    → heard ≡ Plain answer noreply → answer ≡ PlainReply.Values found → noreply ≡ false → items ≡ found → items_text false items ≡ response_text heard
 values_text heard answer found items noreply is by_reply silent same =
     values_so items
-    ∙ (ap (λ (fs : List Found). told_text (Plain (reply.Values fs) false)) same
-    ∙ sym (ap told_text is ∙ (ap (λ (a : PlainReply). told_text (Plain a noreply)) by_reply
-    ∙ ap (λ (b : Bool). told_text (Plain (reply.Values found) b)) silent)))
+    ∙ (ap (λ (fs : List Found). response_text (Plain (PlainReply.Values fs) false)) same
+    ∙ sym (ap response_text is ∙ (ap (λ (a : PlainReply). response_text (Plain a noreply)) by_reply
+    ∙ ap (λ (b : Bool). response_text (Plain (PlainReply.Values found) b)) silent)))
 
-uniques_so : (found : List Found) → items_text true found ≡ told_text (Plain (reply.Uniques found) false)
+uniques_so : (found : List Found) → items_text true found ≡ response_text (Plain (PlainReply.Uniques found) false)
 unfolding plain_text
 uniques_so found = refl
 
-pub uniques_text : (heard : Told) (answer : PlainReply) (found items : List Found) (noreply : Bool)
-    → heard ≡ Plain answer noreply → answer ≡ reply.Uniques found → noreply ≡ false → items ≡ found → items_text true items ≡ told_text heard
+pub uniques_text : (heard : Response) (answer : PlainReply) (found items : List Found) (noreply : Bool)
+    → heard ≡ Plain answer noreply → answer ≡ PlainReply.Uniques found → noreply ≡ false → items ≡ found → items_text true items ≡ response_text heard
 uniques_text heard answer found items noreply is by_reply silent same =
     uniques_so items
-    ∙ (ap (λ (fs : List Found). told_text (Plain (reply.Uniques fs) false)) same
-    ∙ sym (ap told_text is ∙ (ap (λ (a : PlainReply). told_text (Plain a noreply)) by_reply
-    ∙ ap (λ (b : Bool). told_text (Plain (reply.Uniques found) b)) silent)))
+    ∙ (ap (λ (fs : List Found). response_text (Plain (PlainReply.Uniques fs) false)) same
+    ∙ sym (ap response_text is ∙ (ap (λ (a : PlainReply). response_text (Plain a noreply)) by_reply
+    ∙ ap (λ (b : Bool). response_text (Plain (PlainReply.Uniques found) b)) silent)))

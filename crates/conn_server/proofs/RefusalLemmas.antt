@@ -38,12 +38,12 @@ pub record Passes (client : Client) (said : Command) : Type 0 where
 -- none of the errors is due
 abbrev AreNotDue : List (Bool × LineReply) → Type 0
 AreNotDue [] = Unit {0}
-AreNotDue ((due, told) ∷ others) = (due ≡ false) × AreNotDue others
+AreNotDue ((due, reply) ∷ others) = (due ≡ false) × AreNotDue others
 
 none_due : (errors : List (Bool × LineReply)) → first_due errors ≡ None → AreNotDue errors
 none_due [] e = tt
-none_due ((true, told) ∷ others) e = cc
-none_due ((false, told) ∷ others) e = (refl, none_due others e)
+none_due ((true, reply) ∷ others) e = cc
+none_due ((false, reply) ∷ others) e = (refl, none_due others e)
 
 pub passes : (client : Client) (said : Command) → refused client said ≡ None → Passes client said
 unfolding refused

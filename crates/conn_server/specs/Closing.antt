@@ -4,7 +4,7 @@ use Rattle.rows_model.specs.declared.keys.Sid.{Sid}
 use Rattle.key_shard.specs.Permit.{Permit}
 use Rattle.key_shard.specs.declared.replies.Rel.{Rel}
 use Rattle.key_shard.specs.declared.replies.Rel.TheVariants as rel
-use Rattle.session_client.specs.Desks.{Call, Asked}
+use Rattle.session_client.specs.Desks.{Exchange, Asked}
 use Rattle.session_client.specs.declared.replies.Reply.TheVariants as desk
 use Rattle.session_client.specs.declared.replies.Wanted.{Wanted}
 use Rattle.session_client.specs.declared.replies.Wanted.TheVariants as wanted
@@ -20,27 +20,27 @@ ended_by (rel.Released evicted) = 1
 ended_by rel.Gone = 0
 
 -- the grants are released one after another, each in this way; so many of their quarantines ended
-abbrev pub Releases : Sid → (Permit → Wanted) → List Permit → List Call → ℕ → Type 0
+abbrev pub Releases : Sid → (Permit → Wanted) → List Permit → List Exchange → ℕ → Type 0
 Releases who way [] calls count = (calls ≡ []) × (count ≡ 0)
 Releases who way (grant ∷ grants) calls count =
-    (told : Rel) × (others : List Call) × (more : ℕ) × Releases who way grants others more
-    × (calls ≡ Asked who (way grant) (desk.Rel told) ∷ others) × (count ≡ ended_by told + more)
+    (answer : Rel) × (others : List Exchange) × (more : ℕ) × Releases who way grants others more
+    × (calls ≡ Asked who (way grant) (desk.Rel answer) ∷ others) × (count ≡ ended_by answer + more)
 
 -- the session is ended at the store, whether or not it was open there, and then its grants are released with their values kept
-pub record Withdraws (who : Sid) (grants : List Permit) (calls : List Call) (count : ℕ) : Type 0 where
+pub record Withdraws (who : Sid) (grants : List Permit) (calls : List Exchange) (count : ℕ) : Type 0 where
   pub was : Bool
-  pub others : List Call
+  pub others : List Exchange
   pub calls_are : calls ≡ Asked who wanted.End (desk.End was) ∷ others
   pub releases : Releases who (λ grant. wanted.Abort grant) grants others count
 
 -- a session that stands here is given up: a writer that hasn't committed is withdrawn; where it has, the values are dropped
-abbrev pub GivesUp : Stage → Sid → List Permit → List Call → ℕ → Type 0
+abbrev pub GivesUp : Stage → Sid → List Permit → List Exchange → ℕ → Type 0
 GivesUp Reading who grants calls count = (calls ≡ []) × (count ≡ 0)
 GivesUp (Committed number) who grants calls count = Releases who (λ grant. wanted.Dar grant) grants calls count
 GivesUp other who grants calls count = Withdraws who grants calls count
 
 -- the client's session is given up, if it has one
-abbrev pub Leaves : Option Present → List Permit → List Call → ℕ → Type 0
+abbrev pub Leaves : Option Present → List Permit → List Exchange → ℕ → Type 0
 Leaves None grants calls count = (calls ≡ []) × (count ≡ 0)
 Leaves (Some present) grants calls count = GivesUp present.stage present.sid grants calls count
 

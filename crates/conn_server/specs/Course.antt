@@ -1,20 +1,20 @@
 -- What was done so far on a connection that is served.
 use Rattle.std.specs.Prelude.{ℕ, ◌+◌, ◌-◌, ◌^◌, ◌≡◌, ◌<◌, ◌≤◌, min, Bool, true, List, [], ◌++◌, length, drop, Option, Result, Ok, Err}
 use Rattle.iq_outside.specs.Outside.{Takes, Gains, ReadSide, WriteSide}
-use Rattle.mc_text.specs.Framing.{begun}
+use Rattle.mc_text.specs.Framing.{unfed}
 use Rattle.mc_text.specs.declared.faults.FrameFault.{FrameFault}
 use Rattle.mc_text.specs.declared.plain_lines.PlainSaid.{PlainSaid}
 use Rattle.mc_text.specs.declared.plain_replies.PlainReply.{PlainReply}
-use Rattle.session_client.specs.Desks.{Call}
+use Rattle.session_client.specs.Desks.{Exchange}
 use Rattle.plain_ops.specs.Desks.{PlainCall, with_plain_calls}
 use Rattle.conn_server.specs.declared.clients.Client.{Client}
 use Rattle.conn_server.specs.declared.ends.LineEnd.{LineEnd}
 use Rattle.conn_server.specs.declared.ends.LineEnd.TheVariants as ends
 use Rattle.conn_server.specs.declared.serving.Serving.{Serving}
-use Rattle.conn_server.specs.declared.outgoing.Told.{Told}
+use Rattle.conn_server.specs.declared.outgoing.Response.{Response}
 use Rattle.mixed_lines.specs.Items.{Item, AreFirst}
-use Rattle.conn_server.specs.declared.outgoing.Told.TheVariants.{Plain}
-use Rattle.conn_server.specs.Outgoing.{told_text, IsPlainReply, plain_call, plain_calls}
+use Rattle.conn_server.specs.declared.outgoing.Response.TheVariants.{Plain}
+use Rattle.conn_server.specs.Outgoing.{response_text, IsPlainReply, plain_call, plain_calls}
 use Rattle.conn_server.specs.Outbox.{Sends, Stops}
 use Rattle.conn_server.specs.Clients.{newcomer}
 use Rattle.conn_server.specs.Answers.{AllAnswer, with_calls}
@@ -26,19 +26,19 @@ most_reads = 1050628000000
 
 -- nothing was read, answered or written
 pub record IsUnserved (serving : Serving) : Type 0 where
-  pub framer : serving.framer ≡ begun
+  pub framer : serving.framer ≡ unfed
   pub out : serving.out ≡ []
   pub client : serving.client ≡ newcomer
   pub count : serving.count ≡ 0
 
 -- what the desks tell: the calls that each records, and how many steps the sweep took
 pub record DeskSide : Type 0 where
-  pub calls : Option (List Call)
+  pub calls : Option (List Exchange)
   pub tends : Option ℕ
   pub plains : Option (List PlainCall)
 
-abbrev pub desk_side : {Desk Plain : Type 0} → (Desk → Option (List Call)) → (Desk → Option ℕ) → (Plain → Option (List PlainCall)) → Desk → Plain → DeskSide
-desk_side calls tends plains told plain = record { calls = calls told; tends = tends told; plains = plains plain }
+abbrev pub desk_side : {Desk Plain : Type 0} → (Desk → Option (List Exchange)) → (Desk → Option ℕ) → (Plain → Option (List PlainCall)) → Desk → Plain → DeskSide
+desk_side calls tends plains desk plain = record { calls = calls desk; tends = tends desk; plains = plains plain }
 
 -- what a line and a desk told when a connection began
 pub record Start : Type 0 where
@@ -52,17 +52,17 @@ pub record Done (start : Start) (reads : ReadSide) (writes : WriteSide) (desk : 
   pub given : List ℕ
   pub items : List Item
   pub size : ℕ
-  pub told : List Told
-  pub asked : List Call
+  pub responses : List Response
+  pub asked : List Exchange
   pub sent : List ℕ
   pub gives : Takes start.reads.left reads.left given
   pub adds : Gains start.reads.given reads.given given
   pub takes : Gains start.writes.taken writes.taken sent
   pub asks : desk.calls ≡ with_calls asked start.desk.calls
   pub tended : desk.tends ≡ tended_by (length items) start.desk.tends
-  pub asks_plain : desk.plains ≡ with_plain_calls (plain_calls items told) start.desk.plains
+  pub asks_plain : desk.plains ≡ with_plain_calls (plain_calls items responses) start.desk.plains
   pub first : AreFirst given items size
-  pub answers : AllAnswer newcomer items asked told client
+  pub answers : AllAnswer newcomer items asked responses client
   pub read_faults : start.reads.faults ≤ reads.faults
   pub write_faults : start.writes.faults ≤ writes.faults
 
@@ -71,7 +71,7 @@ pub record Course (start : Start) (rounds : ℕ) (reads : ReadSide) (writes : Wr
   pub done : Done start reads writes desk serving.client
   pub within : IsWithin done.items
   pub count : serving.count ≡ length done.items
-  pub due : texts done.told ≡ done.sent ++ serving.out
+  pub due : texts done.responses ≡ done.sent ++ serving.out
   pub rest : serving.framer.rest ≡ drop done.size done.given
   pub place : serving.framer.place ≡ min done.size (2 ^ 64 - 1)
   pub fed : rounds ≤ length done.given
@@ -86,7 +86,7 @@ CountsAt end start reads writes = CountsReads end start.reads.faults reads.fault
 -- a connection ends so, once what stands to be written is written
 pub record Ending (end : LineEnd) (start : Start) (reads : ReadSide) (writes : WriteSide) (desk : DeskSide) (serving : Serving) : Type 0 where
   pub done : Done start reads writes desk serving.client
-  pub ends : EndsSo end done.items done.size (drop done.size done.given) (done.sent ++ serving.out) done.told
+  pub ends : EndsSo end done.items done.size (drop done.size done.given) (done.sent ++ serving.out) done.responses
   pub counts : CountsAt end start reads writes
   pub none_left : NoneLeft end reads.left
 
@@ -97,7 +97,7 @@ pub record Moment : Type 0 where
   pub desk : DeskSide
   pub serving : Serving
 
-abbrev pub moment : {Line Desk Plain : Type 0} → (Line → ReadSide) → (Line → WriteSide) → (Desk → Option (List Call)) → (Desk → Option ℕ)
+abbrev pub moment : {Line Desk Plain : Type 0} → (Line → ReadSide) → (Line → WriteSide) → (Desk → Option (List Exchange)) → (Desk → Option ℕ)
     → (Plain → Option (List PlainCall)) → Line → Desk → Plain → Serving → Moment
 moment reads writes calls tends plains line desk plain serving =
     record { reads = reads line; writes = writes line; desk = desk_side calls tends plains desk plain; serving = serving }
@@ -121,12 +121,12 @@ EndsFrom old new end = (start : Start) (rounds : ℕ) →
     Ending end start new.reads new.writes new.desk new.serving
 
 -- a reply was counted and put behind what waits, unless memory ran out for it or a write failed; more is answered while the budget lasts
-abbrev pub Tells : Result Bool LineEnd → Told → WriteSide → WriteSide → List ℕ → Serving → Type 0
+abbrev pub Tells : Result Bool LineEnd → Response → WriteSide → WriteSide → List ℕ → Serving → Type 0
 Tells (Ok more) reply before after waited new =
-    (more ≡ true) × (new.count < budget) × Sends before after (waited ++ told_text reply) new.out
+    (more ≡ true) × (new.count < budget) × Sends before after (waited ++ response_text reply) new.out
 Tells (Err ends.Budget) reply before after waited new =
-    (new.count ≡ budget) × Sends before after (waited ++ told_text reply) new.out
-Tells (Err end) reply before after waited new = Stops end before after (waited ++ told_text reply) new.out
+    (new.count ≡ budget) × Sends before after (waited ++ response_text reply) new.out
+Tells (Err end) reply before after waited new = Stops end before after (waited ++ response_text reply) new.out
 
 -- a plain command was carried out and counted, and the reply that belongs to it was put behind what waits
 pub record TellsPlain (result : Result Bool LineEnd) (said : PlainSaid) (noreply : Bool) (plain_old plain_new : Option (List PlainCall))
@@ -137,6 +137,6 @@ pub record TellsPlain (result : Result Bool LineEnd) (said : PlainSaid) (noreply
   pub tells : Tells result (Plain reply noreply) before after waited new
 
 -- what is told of a fault was put behind what waits, unless memory ran out for it or a write failed
-abbrev pub Shuts : LineEnd → FrameFault → Told → WriteSide → WriteSide → List ℕ → List ℕ → Type 0
-Shuts (ends.Shut found) fault last before after old new = (found ≡ fault) × Sends before after (old ++ told_text last) new
-Shuts end fault last before after old new = Stops end before after (old ++ told_text last) new
+abbrev pub Shuts : LineEnd → FrameFault → Response → WriteSide → WriteSide → List ℕ → List ℕ → Type 0
+Shuts (ends.Shut found) fault last before after old new = (found ≡ fault) × Sends before after (old ++ response_text last) new
+Shuts end fault last before after old new = Stops end before after (old ++ response_text last) new

@@ -5,8 +5,8 @@ use Rattle.mc_text.specs.PlainReplies.{item_text}
 use Rattle.mc_text.specs.declared.plain_replies.Found.{Found}
 use Rattle.conn_server.specs.declared.ends.LineEnd.{LineEnd}
 use Rattle.conn_server.specs.declared.ends.LineEnd.TheVariants as ends
-use Rattle.conn_server.specs.declared.outgoing.Told.{Told}
-use Rattle.conn_server.specs.Outgoing.{told_text, HasNoItem}
+use Rattle.conn_server.specs.declared.outgoing.Response.{Response}
+use Rattle.conn_server.specs.Outgoing.{response_text, HasNoItem}
 
 -- what waits is sent before more is put behind it, once it has so many bytes
 abbrev pub full : ℕ
@@ -16,7 +16,7 @@ full = 65536
 abbrev pub IsPiece : List ℕ → Type 0
 IsPiece text =
     ((found : Found) × (is_told : Bool) × (text ≡ item_text is_told found))
-    ⊎ ((told : Told) × HasNoItem told × (text ≡ told_text told))
+    ⊎ ((response : Response) × HasNoItem response × (text ≡ response_text response))
 
 -- fewer bytes than that wait, and then one piece at most
 abbrev pub WaitsFew : List ℕ → Type 0

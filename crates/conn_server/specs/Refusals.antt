@@ -12,7 +12,7 @@ use Rattle.mc_text.specs.declared.commands.Command.{Command}
 use Rattle.mc_text.specs.declared.commands.Command.TheVariants.{Begin, IqGet, Ask, Stage, IqSet, QaReg, QaRead, IqDelta, Sql, Dar, Sar}
 use Rattle.mc_text.specs.declared.commands.Command.TheVariants.{IqCommit, IqAbort, Unknown}
 use Rattle.mc_text.specs.declared.replies.LineReply.{LineReply}
-use Rattle.mc_text.specs.declared.replies.LineReply.TheVariants as reply
+use Rattle.mc_text.specs.declared.replies.LineReply.TheVariants as LineReply
 use Rattle.conn_server.specs.declared.clients.Client.{Client}
 use Rattle.conn_server.specs.declared.clients.Present.{Present}
 use Rattle.conn_server.specs.Clients.{is_reading, has_committed, is_busy, is_full, is_present, grant_on}
@@ -122,32 +122,32 @@ is_other_mode other grant = false
 -- the errors in the order in which they are tried, and whether each is due
 abbrev pub refusals : Client → Command → List (Bool × LineReply)
 refusals client said =
-    (is_unknown said, reply.Error)
-    ∷ (begins said && is_busy client, reply.SessionBusy)
-    ∷ (is_no_key (key_word said), reply.NotQueryKey)
-    ∷ (not (flags_of said == 0), reply.Flags)
-    ∷ (not (exptime_of said == 0), reply.Exptime)
-    ∷ (is_of_another client.present (named_sid said), reply.NotYours)
-    ∷ (writes said && is_reading client.present, reply.ReadSession)
-    ∷ (quarantines said && has_committed client.present, reply.AlreadyCommitted)
-    ∷ (quarantines said && is_full client, reply.TooMany)
-    ∷ (shifts_no_count said, reply.NotCount)
-    ∷ (releases said && not (has_committed client.present), reply.NotCommitted)
-    ∷ (releases said && not (is_some (grant_for client.grants.items (key_word said))), reply.NoGrant)
-    ∷ (is_other_mode said (grant_for client.grants.items (key_word said)), reply.WrongMode)
+    (is_unknown said, LineReply.Error)
+    ∷ (begins said && is_busy client, LineReply.SessionBusy)
+    ∷ (is_no_key (key_word said), LineReply.NotQueryKey)
+    ∷ (not (flags_of said == 0), LineReply.Flags)
+    ∷ (not (exptime_of said == 0), LineReply.Exptime)
+    ∷ (is_of_another client.present (named_sid said), LineReply.NotYours)
+    ∷ (writes said && is_reading client.present, LineReply.ReadSession)
+    ∷ (quarantines said && has_committed client.present, LineReply.AlreadyCommitted)
+    ∷ (quarantines said && is_full client, LineReply.TooMany)
+    ∷ (shifts_no_count said, LineReply.NotCount)
+    ∷ (releases said && not (has_committed client.present), LineReply.NotCommitted)
+    ∷ (releases said && not (is_some (grant_for client.grants.items (key_word said))), LineReply.NoGrant)
+    ∷ (is_other_mode said (grant_for client.grants.items (key_word said)), LineReply.WrongMode)
     ∷ []
 
 -- the first reply that is due
 abbrev pub first_due : List (Bool × LineReply) → Option LineReply
 first_due [] = None
-first_due ((due, told) ∷ others) = if due then Some told else first_due others
+first_due ((due, reply) ∷ others) = if due then Some reply else first_due others
 
 -- the error that a release is told where its session may write and its key is one, if it is told one
 abbrev pub release_refused : Client → Command → Option LineReply
 release_refused client said =
-    first_due ((not (has_committed client.present), reply.NotCommitted)
-    ∷ (not (is_some (grant_for client.grants.items (key_word said))), reply.NoGrant)
-    ∷ (is_other_mode said (grant_for client.grants.items (key_word said)), reply.WrongMode)
+    first_due ((not (has_committed client.present), LineReply.NotCommitted)
+    ∷ (not (is_some (grant_for client.grants.items (key_word said))), LineReply.NoGrant)
+    ∷ (is_other_mode said (grant_for client.grants.items (key_word said)), LineReply.WrongMode)
     ∷ [])
 
 -- the error that a command is told without the desk, if it is told one

@@ -3,7 +3,7 @@ use Rattle.std.specs.Prelude.{ℕ, ◌++◌, List, [], ◌∷◌, Option, Some, 
 use Rattle.std.specs.Option.{option_map, unwrap_or}
 use Rattle.rows_model.specs.declared.keys.QKey.{QKey}
 use Rattle.key_shard.specs.Permit.{Permit}
-use Rattle.key_shard.specs.declared.steps.Stands.TheVariants as stands
+use Rattle.key_shard.specs.declared.steps.Blocker.TheVariants as stands
 use Rattle.key_shard.specs.declared.replies.Got.{Got}
 use Rattle.key_shard.specs.declared.replies.Got.TheVariants as got
 use Rattle.key_shard.specs.declared.replies.SetAnswer.{SetAnswer}
@@ -26,7 +26,7 @@ use Rattle.mc_text.specs.declared.commands.Command.{Command}
 use Rattle.mc_text.specs.declared.commands.Command.TheVariants.{IqGet, Ask, Stage, IqSet, QaReg, QaRead, IqDelta, Sql, Dar, Sar}
 use Rattle.mc_text.specs.declared.commands.Command.TheVariants.{IqCommit}
 use Rattle.mc_text.specs.declared.replies.LineReply.{LineReply}
-use Rattle.mc_text.specs.declared.replies.LineReply.TheVariants as reply
+use Rattle.mc_text.specs.declared.replies.LineReply.TheVariants as LineReply
 use Rattle.conn_server.specs.declared.clients.Client.{Client}
 use Rattle.conn_server.specs.declared.clients.Present.{Present}
 use Rattle.conn_server.specs.declared.clients.Stage.TheVariants as stages
@@ -54,71 +54,71 @@ request client (IqCommit (Some key) sid) =
 request client other = None
 
 -- what the client is told of a request that wasn't made
-abbrev pub fault_told : Fault → LineReply
-fault_told faults.Spent = reply.Spent
-fault_told faults.Keep = reply.Store
-fault_told faults.Memory = reply.Memory
+abbrev pub fault_reply : Fault → LineReply
+fault_reply faults.Spent = LineReply.Spent
+fault_reply faults.Keep = LineReply.Store
+fault_reply faults.Memory = LineReply.Memory
 
 -- of a get
-abbrev pub got_told : QKey → Got → LineReply
-got_told key (got.Hit value stamp) = reply.Stamped key stamp value
-got_told key (got.Lease token) = reply.Lease token
-got_told key (got.Again stands.I) = reply.AgainI
-got_told key (got.Again stands.Q) = reply.AgainQ
-got_told key got.Own = reply.Own
+abbrev pub got_reply : QKey → Got → LineReply
+got_reply key (got.Hit value stamp) = LineReply.Stamped key stamp value
+got_reply key (got.Lease token) = LineReply.Lease token
+got_reply key (got.Again stands.I) = LineReply.AgainI
+got_reply key (got.Again stands.Q) = LineReply.AgainQ
+got_reply key got.Own = LineReply.Own
 
 -- of a set
-abbrev pub set_told : SetAnswer → LineReply
-set_told (set.Stored evicted) = reply.Stored
-set_told set.Void = reply.NotStored
+abbrev pub set_reply : SetAnswer → LineReply
+set_reply (set.Stored evicted) = LineReply.Stored
+set_reply set.Void = LineReply.NotStored
 
 -- of a store's answer after a transaction that it doesn't give
-abbrev pub after_told : AfterFault → LineReply
-after_told (after.Rejected index) = reply.Rejected index
-after_told after.Failed = reply.Store
-after_told after.Memory = reply.Memory
+abbrev pub after_reply : AfterFault → LineReply
+after_reply (after.Rejected index) = LineReply.Rejected index
+after_reply after.Failed = LineReply.Store
+after_reply after.Memory = LineReply.Memory
 
 -- of a commit that isn't made
-abbrev pub commit_told : CommitFault → LineReply
-commit_told commit.Ended = reply.Ended
-commit_told (commit.Uncovered key) = reply.Uncovered key
-commit_told (commit.LogFull count) = reply.Full
-commit_told commit.Memory = reply.Memory
-commit_told (commit.Rejected index) = reply.Rejected index
-commit_told commit.KeepFault = reply.Store
+abbrev pub commit_reply : CommitFault → LineReply
+commit_reply commit.Ended = LineReply.Ended
+commit_reply (commit.Uncovered key) = LineReply.Uncovered key
+commit_reply (commit.LogFull count) = LineReply.Full
+commit_reply commit.Memory = LineReply.Memory
+commit_reply (commit.Rejected index) = LineReply.Rejected index
+commit_reply commit.KeepFault = LineReply.Store
 
 -- of a grant: its token; and to refresh, the value that the key has
-abbrev pub granted_told : Command → Permit → Option (List ℕ × ℕ) → LineReply
-granted_told (QaRead key sid) grant (Some (value, stamp)) = reply.GrantedStamped grant.token grant.key stamp value
-granted_told (QaRead key sid) grant None = reply.GrantedNone grant.token
-granted_told other grant old = reply.Granted grant.token
+abbrev pub granted_reply : Command → Permit → Option (List ℕ × ℕ) → LineReply
+granted_reply (QaRead key sid) grant (Some (value, stamp)) = LineReply.GrantedStamped grant.token grant.key stamp value
+granted_reply (QaRead key sid) grant None = LineReply.GrantedNone grant.token
+granted_reply other grant old = LineReply.Granted grant.token
 
 -- of a quarantine
-abbrev pub quarantine_told : Command → QAnswer → LineReply
-quarantine_told said (quarantine.Granted grant old) = granted_told said grant old
-quarantine_told said quarantine.Held = reply.Held
-quarantine_told said (quarantine.Refused holder mode) = reply.Refused holder mode
+abbrev pub quarantine_reply : Command → QAnswer → LineReply
+quarantine_reply said (quarantine.Granted grant old) = granted_reply said grant old
+quarantine_reply said quarantine.Held = LineReply.Held
+quarantine_reply said (quarantine.Refused holder mode) = LineReply.Refused holder mode
 
 -- of a release: a value was dropped or put, or the quarantine stood no longer
-abbrev pub release_told : Command → Rel → LineReply
-release_told said rel.Gone = reply.NotFound
-release_told (Dar key sid) (rel.Released evicted) = reply.Deleted
-release_told other (rel.Released evicted) = reply.Stored
+abbrev pub release_reply : Command → Rel → LineReply
+release_reply said rel.Gone = LineReply.NotFound
+release_reply (Dar key sid) (rel.Released evicted) = LineReply.Deleted
+release_reply other (rel.Released evicted) = LineReply.Stored
 
 -- what the client is told of the desk's reply to its command
 abbrev pub told_of : Command → Reply → LineReply
-told_of (IqGet (Some key) sid floor) (desk.Got told) = got_told key told
-told_of (Ask (Some key) sid) (desk.Answer answer) = reply.Stamped key answer.stamp answer.value
-told_of (Stage (Some key) sid txn) (desk.Staged value changes) = reply.Unstamped key value
-told_of (Stage (Some key) sid txn) (desk.NotStaged fault changes) = after_told fault
-told_of said (desk.Set told) = set_told told
-told_of said (desk.Quar told) = quarantine_told said told
-told_of said (desk.Committed number txn grants) = reply.Committed number
-told_of said (desk.NotCommitted fault txn grants) = commit_told fault
-told_of said (desk.Rel told) = release_told said told
-told_of said (desk.SarBack grant) = reply.Memory
-told_of said (desk.Fault fault) = fault_told fault
-told_of said other = reply.Error
+told_of (IqGet (Some key) sid floor) (desk.Got answer) = got_reply key answer
+told_of (Ask (Some key) sid) (desk.Answer answer) = LineReply.Stamped key answer.stamp answer.value
+told_of (Stage (Some key) sid txn) (desk.Staged value changes) = LineReply.Unstamped key value
+told_of (Stage (Some key) sid txn) (desk.NotStaged fault changes) = after_reply fault
+told_of said (desk.Set answer) = set_reply answer
+told_of said (desk.Quar answer) = quarantine_reply said answer
+told_of said (desk.Committed number txn grants) = LineReply.Committed number
+told_of said (desk.NotCommitted fault txn grants) = commit_reply fault
+told_of said (desk.Rel answer) = release_reply said answer
+told_of said (desk.SarBack grant) = LineReply.Memory
+told_of said (desk.Fault fault) = fault_reply fault
+told_of said other = LineReply.Error
 
 -- the client with these grants
 abbrev pub with_grants : Client → List Permit → Client
@@ -132,7 +132,7 @@ grants_after grants other = grants
 
 -- the grants after a reply to a quarantine
 abbrev pub grants_heard : List Permit → Reply → List Permit
-grants_heard grants (desk.Quar told) = grants_after grants told
+grants_heard grants (desk.Quar answer) = grants_after grants answer
 grants_heard grants other = grants
 
 -- the present session has committed
@@ -148,9 +148,9 @@ grants_left other grants = grants
 
 -- the client after the desk's reply to its command; a grant that comes back for want of memory is still held, in its place
 abbrev pub client_after : Client → Command → Reply → Client
-client_after client said (desk.Quar told) = with_grants client (grants_after client.grants.items told)
+client_after client said (desk.Quar answer) = with_grants client (grants_after client.grants.items answer)
 client_after client said (desk.Committed number txn grants) =
     record { present = commits number client.present; grants = grants }
 client_after client said (desk.NotCommitted fault txn grants) = record { present = client.present; grants = grants }
-client_after client said (desk.Rel told) = with_grants client (grants_left said client.grants.items)
+client_after client said (desk.Rel answer) = with_grants client (grants_left said client.grants.items)
 client_after client said other = client

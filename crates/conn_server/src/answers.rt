@@ -5,7 +5,7 @@ ghost use Rattle.rows_model.specs.declared.keys.Sid.{Sid};
 ghost use Rattle.rows_model.specs.Delta.{is_count};
 ghost use Rattle.lease_table.specs.declared.records.Mode.TheVariants.{Refresh, Delta};
 ghost use Rattle.key_shard.specs.Permit.{Permit};
-ghost use Rattle.session_client.specs.Desks.{Call};
+ghost use Rattle.session_client.specs.Desks.{Exchange};
 ghost use Rattle.session_client.specs.declared.replies.Wanted.TheVariants as wanted;
 ghost use Rattle.mc_text.specs.declared.commands.Command.TheVariants as commands;
 ghost use Rattle.conn_server.specs.Clients.{grant_on, grants_but};
@@ -50,40 +50,67 @@ impl Client {
     {
         match said {
             Command::Begin { role } => self.begin(desk, role),
-            Command::IqGet { key, sid: _, floor } => self.get(desk, key.unwrap(), floor),
-            Command::Ask { key, sid: _ } => self.ask(desk, key.unwrap()),
-            Command::Stage { key, sid: _, txn } => self.stage(desk, key.unwrap(), txn),
+            Command::IqGet {
+                key: Some(key),
+                sid: _,
+                floor,
+            } => self.get(desk, key, floor),
+            Command::Ask {
+                key: Some(key),
+                sid: _,
+            } => self.ask(desk, key),
+            Command::Stage {
+                key: Some(key),
+                sid: _,
+                txn,
+            } => self.stage(desk, key, txn),
             Command::IqSet {
-                key,
+                key: Some(key),
                 flags: _,
                 exptime: _,
                 bytes: _,
                 token,
                 stamp,
                 block,
-            } => self.set(desk, key.unwrap(), token, stamp, block),
-            Command::QaReg { key, sid: _ } => self.invalidate(desk, key.unwrap()),
-            Command::QaRead { key, sid: _ } => self.refresh(desk, key.unwrap()),
-            Command::IqDelta { key, sid: _, by } => self.shift(desk, key.unwrap(), by),
+            } => self.set(desk, key, token, stamp, block),
+            Command::QaReg {
+                key: Some(key),
+                sid: _,
+            } => self.invalidate(desk, key),
+            Command::QaRead {
+                key: Some(key),
+                sid: _,
+            } => self.refresh(desk, key),
+            Command::IqDelta {
+                key: Some(key),
+                sid: _,
+                by,
+            } => self.shift(desk, key, by),
             Command::Sql { sid: _, txn } => self.commit(desk, txn),
-            Command::Dar { key, sid: _ } => self.drop_value(desk, key.unwrap()),
+            Command::Dar {
+                key: Some(key),
+                sid: _,
+            } => self.drop_value(desk, key),
             Command::Sar {
-                key,
+                key: Some(key),
                 flags: _,
                 exptime: _,
                 bytes: _,
                 sid: _,
                 block,
-            } => self.put(desk, key.unwrap(), block),
-            Command::IqCommit { key, sid: _ } => self.apply(desk, key.unwrap()),
+            } => self.put(desk, key, block),
+            Command::IqCommit {
+                key: Some(key),
+                sid: _,
+            } => self.apply(desk, key),
             Command::IqAbort { sid: _ } => self.abort(desk),
-            Command::Quit | Command::Unknown => unreachable!(),
+            _ => unreachable!(),
         }
     }
 
     /// Begins a session, in place of the present one.
     fn begin<D: Desk>(&mut self, desk: &mut D, role: Role) -> LineReply
-        ensures answers { (calls : List Call)
+        ensures answers { (calls : List Exchange)
             × (D.record_of desk.new ≡ with_calls calls (D.record_of desk.old))
             × Begins self.old role calls result self.new }
         ensures untended { D.tends desk.new ≡ D.tends desk.old }
@@ -296,7 +323,7 @@ impl Client {
     /// Ends the session and releases its grants. It stays the present one.
     fn abort<D: Desk>(&mut self, desk: &mut D) -> LineReply
         requires { MayAbort self.old.present }
-        ensures answers { (calls : List Call)
+        ensures answers { (calls : List Exchange)
             × (D.record_of desk.new ≡ with_calls calls (D.record_of desk.old))
             × Aborts self.old calls result self.new }
         ensures untended { D.tends desk.new ≡ D.tends desk.old }

@@ -1,5 +1,5 @@
 ghost use Rattle.std.specs.Prelude.{◌≡◌, ◌≤◌, List, []};
-ghost use Rattle.session_client.specs.Desks.{Call, IsProper};
+ghost use Rattle.session_client.specs.Desks.{Exchange, IsProper};
 ghost use Rattle.session_client.specs.declared.replies.Reply.TheVariants as replies;
 ghost use Rattle.key_shard.specs.declared.replies.Rel.{Rel};
 ghost use Rattle.conn_server.specs.Answers.{GivenUp, with_calls};
@@ -41,7 +41,7 @@ impl Client {
     /// which they were given, and tells how many of their quarantines ended. A session that only reads
     /// has nothing to end. It takes no memory.
     pub(crate) fn give_up<D: Desk>(&mut self, desk: &mut D) -> u64
-        ensures leaves { (calls : List Call)
+        ensures leaves { (calls : List Exchange)
             × (D.record_of desk.new ≡ with_calls calls (D.record_of desk.old))
             × Leaves self.old.present self.old.grants.items calls result }
         ensures untended { D.tends desk.new ≡ D.tends desk.old }
@@ -67,7 +67,7 @@ impl Client {
 /// Releases the grants of a session in their order, and tells how many of their quarantines ended.
 /// Where it has committed the values are dropped.
 fn release_all<D: Desk>(grants: &mut Grants, desk: &mut D, who: Sid, committed: bool) -> u64
-    ensures releases { (calls : List Call)
+    ensures releases { (calls : List Exchange)
         × (D.record_of desk.new ≡ with_calls calls (D.record_of desk.old))
         × Releases who (release_way committed) grants.old.items calls result }
     ensures untended { D.tends desk.new ≡ D.tends desk.old }
@@ -97,13 +97,13 @@ fn release_of(grant: Grant, committed: bool) -> Wanted
 /// How many quarantines a release ended.
 fn ended_by(heard: Reply) -> u64
     ensures most { result ≤ 1 }
-    ensures told { (told : Rel) → heard ≡ replies.Rel told → result ≡ ended_by told }
+    ensures told { (answer : Rel) → heard ≡ replies.Rel answer → result ≡ ended_by answer }
 {
     match heard {
         Reply::Rel {
-            told: Rel::Released { .. },
+            answer: Rel::Released { .. },
         } => 1,
-        Reply::Rel { told: Rel::Gone } => 0,
+        Reply::Rel { answer: Rel::Gone } => 0,
         other => {
             other.let_go();
             0

@@ -2,12 +2,12 @@ ghost use Rattle.std.specs.Prelude.{◌≡◌, ◌++◌, ◌<◌, [], length, On
 ghost use Rattle.mc_text.specs.PlainReplies.{item_text, items_text};
 ghost use Rattle.mixed_lines.specs.Items.{IsOpen};
 ghost use Rattle.conn_server.specs.Closing.{HoldsNothing};
-ghost use Rattle.conn_server.specs.Outgoing.{told_text, end_text, HasNoItem};
+ghost use Rattle.conn_server.specs.Outgoing.{response_text, end_text, HasNoItem};
 ghost use Rattle.conn_server.specs.Outbox.{Puts, Flushes, Finishes};
 
 use crate::closing::Gone;
 use crate::ends::LineEnd;
-use crate::outgoing::{Told, write_end, write_told};
+use crate::outgoing::{Response, write_end, write_response};
 use iq_outside::{Line, write_all};
 use mc_text::{Found, Framer, PlainReply, write_found};
 use rows_model::Memory;
@@ -53,21 +53,21 @@ impl Outbox {
 
     /// Puts what is told behind what waits. After an error a first part of both was sent or waits.
     #[inline(always)]
-    pub(crate) fn tell<L: Line>(&mut self, line: &mut L, told: &Told) -> Result<(), LineEnd>
+    pub(crate) fn tell<L: Line>(&mut self, line: &mut L, response: &Response) -> Result<(), LineEnd>
         ensures puts { Puts result (L.write_side line.old) (L.write_side line.new)
-            (self.old ++ told_text told.now) self.new }
+            (self.old ++ response_text response.now) self.new }
         ensures keeps_reading { L.read_side line.new ≡ L.read_side line.old }
     {
-        match told {
-            Told::Plain {
+        match response {
+            Response::Plain {
                 reply,
                 noreply: false,
             } => match reply {
                 PlainReply::Values { found } => self.tell_items(line, found.items(), false),
                 PlainReply::Uniques { found } => self.tell_items(line, found.items(), true),
-                _ => self.tell_whole(line, told),
+                _ => self.tell_whole(line, response),
             },
-            _ => self.tell_whole(line, told),
+            _ => self.tell_whole(line, response),
         }
     }
 
@@ -120,14 +120,14 @@ impl Outbox {
     }
 
     /// Tells what is told of no item.
-    fn tell_whole<L: Line>(&mut self, line: &mut L, told: &Told) -> Result<(), LineEnd>
-        requires no_item { HasNoItem told.now }
+    fn tell_whole<L: Line>(&mut self, line: &mut L, response: &Response) -> Result<(), LineEnd>
+        requires no_item { HasNoItem response.now }
         ensures puts { Puts result (L.write_side line.old) (L.write_side line.new)
-            (self.old ++ told_text told.now) self.new }
+            (self.old ++ response_text response.now) self.new }
         ensures keeps_reading { L.read_side line.new ≡ L.read_side line.old }
     {
         self.make_room(line)?;
-        match write_told(&mut self.bytes, told) {
+        match write_response(&mut self.bytes, response) {
             Ok(()) => Ok(()),
             Err(Memory) => Err(LineEnd::Memory),
         }

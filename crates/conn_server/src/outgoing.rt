@@ -1,7 +1,7 @@
 // What a client is told, and what is written of it.
 ghost use Rattle.std.specs.Prelude.{◌≡◌, ◌++◌, OnOk, OnErr};
 ghost use Rattle.plain_ops.specs.Desks.{with_plain_calls};
-ghost use Rattle.conn_server.specs.Outgoing.{told_text, end_text, IsPlainReply, plain_call, frame_told};
+ghost use Rattle.conn_server.specs.Outgoing.{response_text, end_text, IsPlainReply, plain_call, frame_response};
 
 use mc_text::{FrameFault, LineReply, PlainReply, PlainSaid, write_plain_reply, write_reply};
 use plain_ops::PlainDesk;
@@ -9,7 +9,7 @@ use rows_model::Memory;
 
 /// What a client is told of a command.
 #[derive(Drop)]
-pub enum Told {
+pub enum Response {
     /// A reply to a lease command or to what is none, or what is told of a fault.
     Lease { reply: LineReply },
     /// A reply to a plain command. It isn't written where none is wanted.
@@ -30,8 +30,8 @@ pub(crate) fn reply_to<P: PlainDesk>(plain: &mut P, said: &PlainSaid) -> PlainRe
 }
 
 /// What a client is told of a fault of the input.
-pub(crate) fn told_of(fault: FrameFault) -> Told
-    ensures { result ≡ frame_told fault }
+pub(crate) fn told_of(fault: FrameFault) -> Response
+    ensures { result ≡ frame_response fault }
 {
     let reply = match fault {
         FrameFault::BadLine { place: _ } => LineReply::BadLine,
@@ -40,7 +40,7 @@ pub(crate) fn told_of(fault: FrameFault) -> Told
         FrameFault::BigBlock { place: _ } => LineReply::BigBlock,
         FrameFault::Memory => LineReply::Memory,
     };
-    Told::Lease { reply }
+    Response::Lease { reply }
 }
 
 /// Writes that no more items come. After want of memory all is as before.
@@ -53,17 +53,17 @@ pub(crate) fn write_end(out: &mut Vec<u8>) -> Result<(), Memory>
 }
 
 /// Writes what is told behind what is to go out. After want of memory that is as before.
-pub(crate) fn write_told(out: &mut Vec<u8>, told: &Told) -> Result<(), Memory>
-    ensures ok { OnOk result (out.new.items ≡ out.old.items ++ told_text told.now) }
+pub(crate) fn write_response(out: &mut Vec<u8>, response: &Response) -> Result<(), Memory>
+    ensures ok { OnOk result (out.new.items ≡ out.old.items ++ response_text response.now) }
     ensures err { OnErr result (out.new.items ≡ out.old.items) }
 {
-    match told {
-        Told::Lease { reply } => write_reply(out, reply),
-        Told::Plain {
+    match response {
+        Response::Lease { reply } => write_reply(out, reply),
+        Response::Plain {
             reply: _,
             noreply: true,
         } => Ok(()),
-        Told::Plain {
+        Response::Plain {
             reply,
             noreply: false,
         } => write_plain_reply(out, reply),

@@ -5,14 +5,14 @@ ghost use Rattle.session_client.specs.Desks.{one_more};
 ghost use Rattle.conn_server.specs.Answers.{GivenUp};
 ghost use Rattle.conn_server.specs.Course.{Start, Course, Ending, DeskSide, desk_side, moment, GoesOn, ReadsOn, EndsFrom, IsUnserved, Tells, TellsPlain, Shuts};
 ghost use Rattle.conn_server.specs.Outbox.{Finishes};
-ghost use Rattle.conn_server.specs.Outgoing.{bad_line_told, frame_told};
+ghost use Rattle.conn_server.specs.Outgoing.{bad_line_response, frame_response};
 ghost use Rattle.conn_server.specs.Service.{IsServed, CountsReads, CountsWrites};
 ghost use Rattle.conn_server.specs.declared.ends.LineEnd.TheVariants as ends;
 
 use crate::clients::Client;
 use crate::ends::LineEnd;
 use crate::outbox::Outbox;
-use crate::outgoing::{Told, reply_to, told_of};
+use crate::outgoing::{Response, reply_to, told_of};
 use iq_outside::{Failed, Line};
 use mc_text::{Command, FrameFault, Framer, LineReply, PlainSaid};
 use mixed_lines::{Said, next_lookup, next_said};
@@ -197,7 +197,7 @@ impl Serving {
         match next_lookup(&mut self.framer) {
             Some(command) => {
                 let reply = self.client.answer(desk, command);
-                self.tell(line, desk, Told::Lease { reply })
+                self.tell(line, desk, Response::Lease { reply })
             }
             None => self.answer_any(line, desk, plain),
         }
@@ -238,7 +238,7 @@ impl Serving {
             ) => Err(LineEnd::Quit),
             Ok(Some(Said::Lease { command })) => {
                 let reply = self.client.answer(desk, command);
-                self.tell(line, desk, Told::Lease { reply })
+                self.tell(line, desk, Response::Lease { reply })
             }
             Ok(Some(Said::Plain { said, noreply })) => {
                 self.answer_plain(line, desk, plain, &said, noreply)
@@ -274,7 +274,7 @@ impl Serving {
         ensures tended { D.tends desk.new ≡ one_more (D.tends desk.old) }
     {
         let reply = reply_to(plain, said);
-        self.tell(line, desk, Told::Plain { reply, noreply })
+        self.tell(line, desk, Response::Plain { reply, noreply })
     }
 
     /// Answers a line that isn't of its verb's form.
@@ -284,7 +284,7 @@ impl Serving {
         desk: &mut D,
     ) -> Result<bool, LineEnd>
         requires { self.old.count < 1000000 }
-        ensures tells { Tells result bad_line_told (L.write_side line.old) (L.write_side line.new)
+        ensures tells { Tells result bad_line_response (L.write_side line.old) (L.write_side line.new)
             self.old.out self.new }
         ensures keeps_reading { L.read_side line.new ≡ L.read_side line.old }
         ensures framer { self.new.framer ≡ self.old.framer }
@@ -294,7 +294,7 @@ impl Serving {
         ensures tended { D.tends desk.new ≡ one_more (D.tends desk.old) }
     {
         let reply = LineReply::BadLine;
-        self.tell(line, desk, Told::Lease { reply })
+        self.tell(line, desk, Response::Lease { reply })
     }
 
     /// Counts a command that was answered, lets the desk take a step of its sweep, and puts what is told
@@ -304,10 +304,10 @@ impl Serving {
         &mut self,
         line: &mut L,
         desk: &mut D,
-        told: Told,
+        response: Response,
     ) -> Result<bool, LineEnd>
         requires { self.old.count < 1000000 }
-        ensures tells { Tells result told (L.write_side line.old) (L.write_side line.new)
+        ensures tells { Tells result response (L.write_side line.old) (L.write_side line.new)
             self.old.out self.new }
         ensures keeps_reading { L.read_side line.new ≡ L.read_side line.old }
         ensures framer { self.new.framer ≡ self.old.framer }
@@ -318,7 +318,7 @@ impl Serving {
     {
         desk.tend();
         self.count += 1;
-        self.out.tell(line, &told)?;
+        self.out.tell(line, &response)?;
         if self.count == BUDGET {
             return Err(LineEnd::Budget);
         }
@@ -327,7 +327,7 @@ impl Serving {
 
     /// Puts what is told of a fault that lasts behind what waits, and tells the end.
     fn shut<L: Line>(&mut self, line: &mut L, fault: FrameFault) -> LineEnd
-        ensures shuts { Shuts result fault (frame_told fault) (L.write_side line.old)
+        ensures shuts { Shuts result fault (frame_response fault) (L.write_side line.old)
             (L.write_side line.new) self.old.out self.new.out }
         ensures keeps_reading { L.read_side line.new ≡ L.read_side line.old }
         ensures framer { self.new.framer ≡ self.old.framer }

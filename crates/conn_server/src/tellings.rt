@@ -6,11 +6,11 @@ ghost use Rattle.rows_model.specs.declared.keys.Sid.{Sid};
 ghost use Rattle.session_client.specs.Belongs.{Belongs};
 ghost use Rattle.session_client.specs.declared.replies.Wanted.TheVariants as wanted;
 ghost use Rattle.mc_text.specs.declared.commands.Command.TheVariants as commands;
-ghost use Rattle.mc_text.specs.declared.replies.LineReply.TheVariants as reply;
-ghost use Rattle.conn_server.specs.Requests.{fault_told, got_told, set_told, after_told, commit_told, told_of, grants_heard};
+ghost use Rattle.mc_text.specs.declared.replies.LineReply.TheVariants as LineReply;
+ghost use Rattle.conn_server.specs.Requests.{fault_reply, got_reply, set_reply, after_reply, commit_reply, told_of, grants_heard};
 ghost use Rattle.conn_server.specs.Tellings.{granted_as, quarantine_as, release_as};
 
-use key_shard::{Got, Grant, QAnswer, Rel, SetAnswer, Stands};
+use key_shard::{Blocker, Got, Grant, QAnswer, Rel, SetAnswer};
 use mc_text::LineReply;
 use rows_model::{QKey, Value};
 use session_client::{Fault, Grants, Reply};
@@ -65,10 +65,10 @@ pub(crate) fn tell_set(heard: Reply) -> LineReply
 {
     match heard {
         Reply::Set {
-            told: SetAnswer::Stored { .. },
+            answer: SetAnswer::Stored { .. },
         } => LineReply::Stored,
         Reply::Set {
-            told: SetAnswer::Void,
+            answer: SetAnswer::Void,
         } => LineReply::NotStored,
         Reply::Fault { fault } => tell_fault(fault),
         other => tell_none(other),
@@ -83,11 +83,11 @@ pub(crate) fn tell_quarantine(grants: &mut Grants, reads: bool, heard: Reply) ->
     ensures room { grants.new.room ≡ grants.old.room }
 {
     match heard {
-        Reply::Quar { told } => match told {
+        Reply::Quar { answer } => match answer {
             QAnswer::Granted { grant, old } => {
-                let told = tell_grant(reads, &grant, old);
+                let reply = tell_grant(reads, &grant, old);
                 grants.add(grant);
-                told
+                reply
             }
             QAnswer::Held => LineReply::Held,
             QAnswer::Refused { holder, mode } => LineReply::Refused { holder, mode },
@@ -103,16 +103,16 @@ pub(crate) fn tell_release(ended: LineReply, heard: Reply) -> LineReply
 {
     match heard {
         Reply::Rel {
-            told: Rel::Released { .. },
+            answer: Rel::Released { .. },
         } => ended,
-        Reply::Rel { told: Rel::Gone } => LineReply::NotFound,
+        Reply::Rel { answer: Rel::Gone } => LineReply::NotFound,
         other => tell_none(other),
     }
 }
 
 /// Of a commit that isn't made.
 pub(crate) fn tell_not_committed(fault: CommitFault) -> LineReply
-    ensures { result ≡ commit_told fault }
+    ensures { result ≡ commit_reply fault }
 {
     match fault {
         CommitFault::Ended => LineReply::Ended,
@@ -127,16 +127,16 @@ pub(crate) fn tell_not_committed(fault: CommitFault) -> LineReply
 /// Of the answer to a get.
 #[inline(always)]
 fn tell_got(key: QKey, got: Got) -> LineReply
-    ensures { result ≡ got_told key got }
+    ensures { result ≡ got_reply key got }
 {
     match got {
         Got::Hit { value, stamp } => LineReply::Stamped { key, stamp, value },
         Got::Lease { token } => LineReply::Lease { token },
         Got::Again {
-            standing: Stands::I,
+            standing: Blocker::I,
         } => LineReply::AgainI,
         Got::Again {
-            standing: Stands::Q,
+            standing: Blocker::Q,
         } => LineReply::AgainQ,
         Got::Own => LineReply::Own,
     }
@@ -144,7 +144,7 @@ fn tell_got(key: QKey, got: Got) -> LineReply
 
 /// Of a store's answer after a transaction that it doesn't give.
 fn tell_after(fault: AfterFault) -> LineReply
-    ensures { result ≡ after_told fault }
+    ensures { result ≡ after_reply fault }
 {
     match fault {
         AfterFault::Rejected { index } => LineReply::Rejected { index },
@@ -174,7 +174,7 @@ fn tell_grant(reads: bool, grant: &Grant, old: Option<(Value, u64)>) -> LineRepl
 
 /// Of a request that wasn't made.
 fn tell_fault(fault: Fault) -> LineReply
-    ensures { result ≡ fault_told fault }
+    ensures { result ≡ fault_reply fault }
 {
     match fault {
         Fault::Spent => LineReply::Spent,
@@ -185,7 +185,7 @@ fn tell_fault(fault: Fault) -> LineReply
 
 /// Of a reply that doesn't belong to the request. A desk gives none.
 fn tell_none(heard: Reply) -> LineReply
-    ensures { result ≡ reply.Error }
+    ensures { result ≡ LineReply.Error }
 {
     heard.let_go();
     LineReply::Error

@@ -24,16 +24,16 @@ use Rattle.sql_keeper.specs.Commits.{covers, is_covered}
 use Rattle.session_client.specs.declared.plans.Plan.{Plan}
 use Rattle.session_client.specs.declared.plans.Shape.{Shape}
 use Rattle.session_client.specs.declared.replies.Reply.{Reply}
-use Rattle.session_client.specs.declared.replies.Reply.TheVariants as reply
+use Rattle.session_client.specs.declared.replies.Reply.TheVariants as Reply
 use Rattle.session_client.specs.declared.replies.Wanted.{Wanted}
 use Rattle.session_client.specs.Plans.{mode_of, mode_on, shift_in, keys_of, changes_of}
 use Rattle.session_client.specs.Wants.{is_had, writing_of}
 use Rattle.session_client.proofs.WantCases.{is_asking}
-use Rattle.core_history.specs.Events.{Event, Stepped, steps_of, told_to, now_of}
+use Rattle.core_history.specs.Events.{Event, Stepped, steps_of, heard_by, now_of}
 use Rattle.core_history.specs.Machine.{World, terms_of, step_reply, quarantined_on}
 use Rattle.core_history.proofs.ListLemmas.{or_inl, and_elim, and_intro, not_both, any-back}
 use Rattle.core_history.proofs.GoodEvents.{IsGoodEvent}
-use Rattle.core_history.proofs.EventLemmas.{logged-committed, committed-told, counted-granted, told-mine, ever}
+use Rattle.core_history.proofs.EventLemmas.{logged-committed, committed-heard, counted-granted, heard-mine, ever}
 use Rattle.key_shard.proofs.LegalLemmas.{legal_stands_well, distinct}
 use Rattle.core_history.proofs.SessionLemmas.{stood-quiet, stood-granted, finds-stepped, asking-going, ReleasesNone, writer-mild}
 use Rattle.core_history.proofs.WriterLemmas.{writer-granted}
@@ -66,8 +66,8 @@ joins_others mode quars (inr all) =
 -- what a writer asks for next, in the mode and with the shift that its plan has for the key
 pub record IsAsked (shape : Shape) (world : World) (n : ℕ) (plan : Plan) (request : Wanted) (key : QKey) (mode : Mode) (shift : ℤ) : Type 0 where
   pub none : ReleasesNone request
-  pub at : slice_get (keys_of plan) (count_by is_had (told_to n world.past)) ≡ Some key
-  pub asks : is_asking (told_to n world.past) ≡ true
+  pub at : slice_get (keys_of plan) (count_by is_had (heard_by n world.past)) ≡ Some key
+  pub asks : is_asking (heard_by n world.past) ≡ true
   pub in_mode : mode ≡ mode_on (mode_of plan) key
   pub by : shift ≡ shift_in mode key (changes_of plan)
   pub fits : FitsShift mode shift
@@ -98,7 +98,7 @@ ask-turn shape world who plan request key mode shift inner w asked =
     steps = steps_of home past
 
     heard : List Reply
-    heard = told_to who.number past
+    heard = heard_by who.number past
 
     now : ℕ
     now = now_of past
@@ -121,7 +121,7 @@ ask-turn shape world who plan request key mode shift inner w asked =
       good = record {
         alone = joins_alone mode (standing key steps) join;
         joins = joins_others mode (standing key steps) join;
-        before = λ logged. not_both (logged-committed who.number past logged) (committed-told who.number past
+        before = λ logged. not_both (logged-committed who.number past logged) (committed-heard who.number past
             ∙ (w.writer.going (asking-going heard asked.asks)).0);
       };
       own = tt;
@@ -137,30 +137,30 @@ ask-turn shape world who plan request key mode shift inner w asked =
         let s = step.Granted key who mode shift now token deadline in
         let old = old_value mode (entry key steps) in
         let grant : Permit = record { shard = home; key = key; sid = who; mode = mode; token = token } in
-        let told = reply.Quar (quarantine.Granted grant old) in
-        let event = Stepped home who request s told in
+        let reply = Reply.Quar (quarantine.Granted grant old) in
+        let event = Stepped home who request s reply in
         let covered : covers who key grant ≡ true = and_intro _ _ (same_key-refl key) (eq-eqb who.number who.number refl) in
         let answers : Answers terms steps s = record { request = Quarantine key who mode shift now; at_home = refl; owed = asked.fits; answer = is } in
         let apart = distinct terms (s ∷ steps) key (legal_stands_well terms (s ∷ steps) (answers, inner.legal home) key) in
-        stepped-inner shape world home who request s told inner answers
-        (subst (λ l. is_covered who (ever l) key ≡ true) (sym (told-mine who told heard))
+        stepped-inner shape world home who request s reply inner answers
+        (subst (λ l. is_covered who (ever l) key ≡ true) (sym (heard-mine who reply heard))
         (any-back (covers who key) (ever heard) (grant ∷ []) (or_inl (covers who key grant) false covered)))
         (record { plan = plan; at = w.at; may = w.may; by = λ e. asked.by ∙ ap (λ m. shift_in m key (changes_of plan)) e })
         refl (counted-granted shape.shards key who request mode shift now token deadline home old)
-        (λ n other. finds-stepped shape home who request s told past n tt (draws-late shape past home s answers))
-        (λ n other g own. stood-granted shape home who request key who mode shift now token deadline told past asked.none n g)
-        (w.stays event told (writer-granted shape past who request key mode shift now heard
+        (λ n other. finds-stepped shape home who request s reply past n tt (draws-late shape past home s answers))
+        (λ n other g own. stood-granted shape home who request key who mode shift now token deadline reply past asked.none n g)
+        (w.stays event reply (writer-granted shape past who request key mode shift now heard
         (writing_of plan) asked.none asked.at asked.in_mode asked.asks apart w.writer))
 
     refused_inner : (quar : Quar) → step.Refused key who mode quar.sid quar.mode ≡ quarantine_step terms steps key who mode shift now
         → Inner shape (with_event world (Event-of (step.Refused key who mode quar.sid quar.mode)))
     refused_inner quar is =
         let s = step.Refused key who mode quar.sid quar.mode in
-        let told = reply.Quar (quarantine.Refused quar.sid quar.mode) in
-        let event = Stepped home who request s told in
+        let reply = Reply.Quar (quarantine.Refused quar.sid quar.mode) in
+        let event = Stepped home who request s reply in
         let answers : Answers terms steps s = record { request = Quarantine key who mode shift now; at_home = refl; owed = asked.fits; answer = is } in
-        quiet-inner shape world home who request s told inner answers tt asked.none refl refl
-        (w.stays event told (writer-mild shape event past who.number told heard
+        quiet-inner shape world home who request s reply inner answers tt asked.none refl refl
+        (w.stays event reply (writer-mild shape event past who.number reply heard
         (writing_of plan) (record {
           brings = record { none = refl; kept = λ p g. refl; left = λ p g. refl };
           calm = refl;
@@ -168,6 +168,6 @@ ask-turn shape world who plan request key mode shift inner w asked =
           release = refl;
           commit = refl;
         })
-        (finds-stepped shape home who request s told past who.number tt (draws-late shape past home s answers))
-        (λ g own. stood-quiet shape home who request s told past tt asked.none who.number g) (λ e. absurd (false≢true e))
+        (finds-stepped shape home who request s reply past who.number tt (draws-late shape past home s answers))
+        (λ g own. stood-quiet shape home who request s reply past tt asked.none who.number g) (λ e. absurd (false≢true e))
         (λ _. asking-going heard asked.asks) w.writer))

@@ -21,14 +21,14 @@ use Rattle.session_client.specs.Grants.{GrantsView}
 use Rattle.session_client.specs.declared.plans.Plan.{Plan}
 use Rattle.session_client.specs.declared.plans.Shape.{Shape}
 use Rattle.session_client.specs.declared.replies.Reply.{Reply}
-use Rattle.session_client.specs.declared.replies.Reply.TheVariants as reply
+use Rattle.session_client.specs.declared.replies.Reply.TheVariants as Reply
 use Rattle.session_client.specs.declared.replies.Wanted.{Wanted}
 use Rattle.session_client.specs.declared.replies.Wanted.TheVariants as wanted
 use Rattle.session_client.specs.Plans.{keys_of, changes_of}
 use Rattle.session_client.specs.Wants.{granted, was_committed, writing_of, commit_with}
 use Rattle.session_client.proofs.WantCases.{is_ending}
-use Rattle.core_history.specs.Events.{Event, Called, steps_of, told_to, log_of, has_committed, was_ended}
-use Rattle.core_history.specs.Machine.{World, Said, Value, Made, Rejected, Failed, is_open, commit_said, commit_by, log_cap, staged_told}
+use Rattle.core_history.specs.Events.{Event, Called, steps_of, heard_by, log_of, has_committed, was_ended}
+use Rattle.core_history.specs.Machine.{World, Said, Value, Made, Rejected, Failed, is_open, commit_said, commit_by, log_cap, staged_reply}
 use Rattle.core_history.specs.Facts.{stands_for}
 use Rattle.core_history.proofs.ListLemmas.{choose, or_inl, or_inr, or_elim, not_both}
 use Rattle.core_history.proofs.GoodEvents.{IsGoodEvent}
@@ -41,27 +41,27 @@ use Rattle.core_history.proofs.ReadTurnLemmas.{After}
 use Rattle.core_history.proofs.WritingLemmas.{IsWriter, open-uncommitted, open-closed, shut-closed, granted-stands}
 
 -- a call of a writer's that brings it no grant and no commit
-call-turn : (shape : Shape) (world : World) (who : Sid) (plan : Plan) (request : Wanted) (told : Reply)
-    → Inner shape world → IsWriter shape world who.number plan → Mild told
-    → (is_ending (told ∷ told_to who.number world.past) ≡ true → closed who.number (Called who request told ∷ world.past) ≡ true)
-    → (is_going (told ∷ told_to who.number world.past) ≡ true → is_going (told_to who.number world.past) ≡ true)
-    → Inner shape (with_event world (Called who request told))
-call-turn shape world who plan request told inner w mild ending goes =
-    let event = Called who request told in
-    mild-inner shape world who request told inner mild.brings.none mild.commit
-    (w.stays event told (writer-mild shape event world.past who.number told
-    (told_to who.number world.past) (writing_of plan) mild (finds-called shape who request told world.past who.number)
-    (λ grant own. stood-called shape who request told world.past who.number grant) ending goes w.writer))
+call-turn : (shape : Shape) (world : World) (who : Sid) (plan : Plan) (request : Wanted) (reply : Reply)
+    → Inner shape world → IsWriter shape world who.number plan → Mild reply
+    → (is_ending (reply ∷ heard_by who.number world.past) ≡ true → closed who.number (Called who request reply ∷ world.past) ≡ true)
+    → (is_going (reply ∷ heard_by who.number world.past) ≡ true → is_going (heard_by who.number world.past) ≡ true)
+    → Inner shape (with_event world (Called who request reply))
+call-turn shape world who plan request reply inner w mild ending goes =
+    let event = Called who request reply in
+    mild-inner shape world who request reply inner mild.brings.none mild.commit
+    (w.stays event reply (writer-mild shape event world.past who.number reply
+    (heard_by who.number world.past) (writing_of plan) mild (finds-called shape who request reply world.past who.number)
+    (λ grant own. stood-called shape who request reply world.past who.number grant) ending goes w.writer))
 
 -- it is ended at the store, whether or not it was open: it is closed then
 pub end-turn : (shape : Shape) (world : World) (who : Sid) (said : Said) (plan : Plan)
     → Inner shape world → IsWriter shape world who.number plan → After shape world who said wanted.End
 end-turn shape world who said plan inner w = by (is_open world who) refl
   where
-    ended : (b : Bool) → closed who.number (Called who wanted.End (reply.End b) ∷ world.past) ≡ true
-        → Inner shape (with_event world (Called who wanted.End (reply.End b)))
+    ended : (b : Bool) → closed who.number (Called who wanted.End (Reply.End b) ∷ world.past) ≡ true
+        → Inner shape (with_event world (Called who wanted.End (Reply.End b)))
     ended b shut =
-        call-turn shape world who plan wanted.End (reply.End b) inner w (record {
+        call-turn shape world who plan wanted.End (Reply.End b) inner w (record {
           brings = record { none = refl; kept = λ p g. refl; left = λ p g. refl };
           calm = refl;
           had = refl;
@@ -70,23 +70,23 @@ end-turn shape world who said plan inner w = by (is_open world who) refl
         }) (λ _. shut)
         (λ on. absurd (false≢true on))
 
-    by : (b : Bool) → is_open world who ≡ b → Inner shape (with_event world (Called who wanted.End (reply.End b)))
-        × IsGoodEvent shape world.past (Called who wanted.End (reply.End b))
+    by : (b : Bool) → is_open world who ≡ b → Inner shape (with_event world (Called who wanted.End (Reply.End b)))
+        × IsGoodEvent shape world.past (Called who wanted.End (Reply.End b))
     by true is =
-        let event = Called who wanted.End (reply.End true) in
+        let event = Called who wanted.End (Reply.End true) in
         let mine : was_ended who.number (event ∷ world.past) ≡ true =
         or_inl (who.number == who.number) (was_ended who.number world.past) (eq-eqb who.number who.number refl) in (
           ended true (or_inr (has_committed who.number (event ∷ world.past)) (was_ended who.number (event ∷ world.past)) mine),
           λ logged. not_both (logged-committed who.number world.past logged) (open-uncommitted world who is),
         )
     by false is =
-        (ended false (closed-more who.number (Called who wanted.End (reply.End false)) world.past (shut-closed world who plan w.at w.may is)), tt)
+        (ended false (closed-more who.number (Called who wanted.End (Reply.End false)) world.past (shut-closed world who plan w.at w.may is)), tt)
 
 -- it wants nothing
 pub nothing-turn : (shape : Shape) (world : World) (who : Sid) (said : Said) (plan : Plan)
     → Inner shape world → IsWriter shape world who.number plan → After shape world who said wanted.Nothing
 nothing-turn shape world who said plan inner w = (
-  call-turn shape world who plan wanted.Nothing reply.Nothing inner w
+  call-turn shape world who plan wanted.Nothing Reply.Nothing inner w
       (record {
         brings = record { none = refl; kept = λ p g. refl; left = λ p g. refl };
         calm = refl;
@@ -101,16 +101,16 @@ nothing-turn shape world who said plan inner w = (
 -- it asks for the answer that its transaction would leave
 pub staged-turn : (shape : Shape) (world : World) (who : Sid) (said : Said) (plan : Plan) (key : QKey) (txn : List Change)
     → Inner shape world → IsWriter shape world who.number plan
-    → is_going (told_to who.number world.past) ≡ true → After shape world who said (wanted.Staged key txn)
+    → is_going (heard_by who.number world.past) ≡ true → After shape world who said (wanted.Staged key txn)
 staged-turn shape world who said plan key txn inner w going = by said
   where
     request : Wanted
     request = wanted.Staged key txn
 
-    by : (s : Said) → Inner shape (with_event world (Called who request (staged_told txn s)))
-        × IsGoodEvent shape world.past (Called who request (staged_told txn s))
+    by : (s : Said) → Inner shape (with_event world (Called who request (staged_reply txn s)))
+        × IsGoodEvent shape world.past (Called who request (staged_reply txn s))
     by (Value value) = (
-      call-turn shape world who plan request (reply.Staged value txn) inner w
+      call-turn shape world who plan request (Reply.Staged value txn) inner w
           (record {
             brings = record { none = refl; kept = λ p g. refl; left = λ p g. refl };
             calm = refl;
@@ -121,7 +121,7 @@ staged-turn shape world who said plan key txn inner w going = by said
       tt,
     )
     by (Rejected index) = (
-      call-turn shape world who plan request (reply.NotStaged (after.Rejected index) txn) inner w
+      call-turn shape world who plan request (Reply.NotStaged (after.Rejected index) txn) inner w
           (record {
             brings = record { none = refl; kept = λ p g. refl; left = λ p g. refl };
             calm = refl;
@@ -132,7 +132,7 @@ staged-turn shape world who said plan key txn inner w going = by said
       tt,
     )
     by Made = (
-      call-turn shape world who plan request (reply.NotStaged after.Failed txn) inner w
+      call-turn shape world who plan request (Reply.NotStaged after.Failed txn) inner w
           (record {
             brings = record { none = refl; kept = λ p g. refl; left = λ p g. refl };
             calm = refl;
@@ -143,7 +143,7 @@ staged-turn shape world who said plan key txn inner w going = by said
       tt,
     )
     by Failed = (
-      call-turn shape world who plan request (reply.NotStaged after.Failed txn) inner w
+      call-turn shape world who plan request (Reply.NotStaged after.Failed txn) inner w
           (record {
             brings = record { none = refl; kept = λ p g. refl; left = λ p g. refl };
             calm = refl;
@@ -176,23 +176,23 @@ no_fault true who grants txn count cap h = (refl, by (uncovered who grants txn) 
 
 -- a quarantine of an open session stands on each key that its transaction touches, where each is covered
 covered-stands : (shape : Shape) (world : World) (who : Sid) (plan : Plan) (txn : List Change) → IsWriter shape world who.number plan
-    → closed who.number world.past ≡ false → uncovered who (granted (told_to who.number world.past)) txn ≡ None → (key : QKey) → touches txn key ≡ true
+    → closed who.number world.past ≡ false → uncovered who (granted (heard_by who.number world.past)) txn ≡ None → (key : QKey) → touches txn key ≡ true
     → stands_for who (standing key (steps_of (shard_of key shape.shards) world.past)) ≡ true
 covered-stands shape world who plan txn w still none key touched =
-    let heard = told_to who.number world.past in
+    let heard = heard_by who.number world.past in
     granted-stands shape world.past who heard (writing_of plan) w.writer still key
     (found_none (is_covered who (granted heard)) key (footprint txn) none ((footprints_are_exact_is txn).exact key ∙ touched))
 
 -- it is committed, or the commit is refused
 pub commit-turn : (shape : Shape) (world : World) (who : Sid) (said : Said) (plan : Plan) → Inner shape world → IsWriter shape world who.number plan
-    → is_going (told_to who.number world.past) ≡ true → After shape world who said (commit_with (writing_of plan) (told_to who.number world.past))
+    → is_going (heard_by who.number world.past) ≡ true → After shape world who said (commit_with (writing_of plan) (heard_by who.number world.past))
 commit-turn shape world who said plan inner w going = by (commit_fault (is_open world who) who (granted heard) txn count log_cap) refl
   where
     past : List Event
     past = world.past
 
     heard : List Reply
-    heard = told_to who.number past
+    heard = heard_by who.number past
 
     txn : List Change
     txn = changes_of plan
@@ -207,10 +207,10 @@ commit-turn shape world who said plan inner w going = by (commit_fault (is_open 
     request = wanted.Commit txn lent
 
     refused : (fault : CommitFault)
-        → Inner shape (with_event world (Called who request (reply.NotCommitted fault txn lent)))
-        × IsGoodEvent shape past (Called who request (reply.NotCommitted fault txn lent))
+        → Inner shape (with_event world (Called who request (Reply.NotCommitted fault txn lent)))
+        × IsGoodEvent shape past (Called who request (Reply.NotCommitted fault txn lent))
     refused fault = (
-      call-turn shape world who plan request (reply.NotCommitted fault txn lent) inner w
+      call-turn shape world who plan request (Reply.NotCommitted fault txn lent) inner w
           (record {
             brings = record { none = refl; kept = λ p g. refl; left = λ p g. refl };
             calm = refl;
@@ -222,19 +222,19 @@ commit-turn shape world who said plan inner w going = by (commit_fault (is_open 
     )
 
     made : commit_fault (is_open world who) who (granted heard) txn count log_cap ≡ None
-        → Inner shape (with_event world (Called who request (reply.Committed (count + 1) txn lent)))
-        × IsGoodEvent shape past (Called who request (reply.Committed (count + 1) txn lent))
+        → Inner shape (with_event world (Called who request (Reply.Committed (count + 1) txn lent)))
+        × IsGoodEvent shape past (Called who request (Reply.Committed (count + 1) txn lent))
     made none =
-        let told = reply.Committed (count + 1) txn lent in
-        let event = Called who request told in
+        let reply = Reply.Committed (count + 1) txn lent in
+        let event = Called who request reply in
         let parts = no_fault (is_open world who) who (granted heard) txn count log_cap none in
         let still = open-closed world who parts.0 in
         let stands = covered-stands shape world who plan txn w still parts.1 in (
-          called-inner shape world who request told inner refl
+          called-inner shape world who request reply inner refl
               (λ n shut. choose (λ l. was_committed l ≡ false) (who.number == n)
-              (told ∷ []) [] (λ same. absurd (not_both shut (subst (λ m. closed m past ≡ false) (eqb-true who.number n same) still))) (λ _. refl))
+              (reply ∷ []) [] (λ same. absurd (not_both shut (subst (λ m. closed m past ≡ false) (eqb-true who.number n same) still))) (λ _. refl))
               stands (record { plan = plan; at = w.at; changes = refl })
-              (w.stays event told (writer-committed shape past who request txn lent heard (writing_of plan) w.writer)),
+              (w.stays event reply (writer-committed shape past who request txn lent heard (writing_of plan) w.writer)),
           record {
             opened = λ over. not_both (over-closed who.number past over) still;
             granted = λ key touched. quarantined-granted key who (steps_of (shard_of key shape.shards) past)

@@ -22,21 +22,21 @@ use Rattle.session_client.specs.Wants.{wants}
 use Rattle.rows_model.specs.declared.refusals.Memory.{Memory}
 use Rattle.session_client.specs.declared.plans.Turn.{Turn}
 use Rattle.session_client.specs.declared.plans.Turn.TheVariants as turn
-use Rattle.expiry_sweeper.specs.Follows.{shards_of, wanted_of as wanted_by_stage, Follows as IsTold}
+use Rattle.expiry_sweeper.specs.Follows.{shards_of, wanted_of as wanted_by_stage, Follows as HasHeard}
 use Rattle.expiry_sweeper.specs.Sweeps.{sweep_wants}
 use Rattle.expiry_sweeper.specs.declared.replies.SweepReply.{SweepReply}
 use Rattle.expiry_sweeper.specs.declared.replies.SweepWanted.{SweepWanted}
 use Rattle.expiry_sweeper.specs.declared.replies.SweepWanted.TheVariants as sweep
 use Rattle.expiry_sweeper.specs.declared.sweepers.Sweeper.{Sweeper}
 use Rattle.sql_keeper.specs.Stores.{StoreView}
-use Rattle.core_history.specs.declared.told.Told.{Told}
+use Rattle.core_history.specs.declared.turn_lines.TurnLine.{TurnLine}
 use Rattle.core_history.specs.Cores.{Origin, CoreView, HasShards, HasHomes, KeepAll, AreFollowing, HasKept, HasSessions, HasSweeper, IsAt, IsRunning, HasBegun}
-use Rattle.core_history.specs.Events.{Event, Ticked, told_in, told_to, swept_in, sweeps_of, now_of, reply_in}
+use Rattle.core_history.specs.Events.{Event, Ticked, heard_in, heard_by, swept_in, sweeps_of, now_of, reply_in}
 use Rattle.core_history.specs.Machine.{World, wanted_by, wanted_of, event_of, sweep_of, swept_next, later, turn_event, out_of, Said, Failed}
 use Rattle.core_history.specs.Machine.{Move, Take, world_of}
 use Rattle.core_history.specs.Requests.{IsGrantOut, IsOutWhereReleased, IsWaiting, AreAfter, TakesTurn, TakesOne, after}
 use Rattle.core_history.specs.Sweeping.{IsNumbered, TakesSweep}
-use Rattle.core_history.specs.Told.{IsToldOf}
+use Rattle.core_history.specs.TurnLines.{IsLineOf}
 use Rattle.core_history.proofs.FoundLemmas.{ends_numbered}
 use Rattle.core_history.proofs.GrantLemmas.{grant_facts}
 use Rattle.core_history.proofs.GrantFacts.{GrantFacts, IsReleaseOf}
@@ -54,7 +54,7 @@ sid_is a b e = ap (λ (n : ℕ). record { number = n }) e
 
 -- no session that hasn't begun was told anything
 abbrev pub NoneUnbegun : List Session → List Event → Type 0
-NoneUnbegun sessions past = (number : ℕ) → length sessions < number → told_to number past ≡ []
+NoneUnbegun sessions past = (number : ℕ) → length sessions < number → heard_by number past ≡ []
 
 pub follow_begun : (sessions : List Session) (new : Session) (past : List Event) → AreFollowing sessions past → NoneUnbegun sessions past → IsReady new
     → (sid_of new).number ≡ length sessions + 1 → Follows new false [] → AreFollowing (sessions ++ new ∷ []) past
@@ -64,7 +64,7 @@ follow_begun sessions new past all none ready number follows place session found
     let inside : place < length (sessions ++ new ∷ []) = slice_get_within (sessions ++ new ∷ []) place session found in
     let last : place ≡ length sessions = omega (arith, length-append sessions (new ∷ [])) in
     let is : new ≡ session = some_same new session (sym (slice_get_pushed sessions new) ∙ ap (slice_get (sessions ++ new ∷ [])) (sym last) ∙ found) in
-    let P : Session → Type 0 = λ s. IsReady s × ((sid_of s).number ≡ place + 1) × Follows s false (told_to (place + 1) past) in
+    let P : Session → Type 0 = λ s. IsReady s × ((sid_of s).number ≡ place + 1) × Follows s false (heard_by (place + 1) past) in
     let Q : List Reply → Type 0 = λ heard. Follows new false heard in
     subst P is (ready, omega (arith, number, last), subst Q (sym (none (place + 1) (omega arith))) follows))
     (cases_lt place (length sessions))
@@ -79,49 +79,49 @@ plans_begun sessions new plans plan all is =
 
 -- what each session was told with one reply more, to the session of this number
 abbrev pub TellsOne : ℕ → Reply → List Event → Event → Type 0
-TellsOne who told past event =
-    (number : ℕ) → told_to number (event ∷ past) ≡ cond (who == number) (told ∷ []) [] ++ told_to number past
+TellsOne who reply past event =
+    (number : ℕ) → heard_by number (event ∷ past) ≡ cond (who == number) (reply ∷ []) [] ++ heard_by number past
 
 -- the sessions after a turn of one
-pub follow_turn : (sessions : List Session) (who : ℕ) (after : Session) (told : Reply) (past : List Event) (event : Event) → AreFollowing sessions past
-    → 1 ≤ who → who ≤ length sessions → TellsOne who told past event →
-    IsReady after → (sid_of after).number ≡ who → Follows after false (told ∷ told_to who past) → AreFollowing (set sessions (who - 1) after) (event ∷ past)
-follow_turn sessions who after told past event all some begun tells ready number follows place session found =
+pub follow_turn : (sessions : List Session) (who : ℕ) (after : Session) (reply : Reply) (past : List Event) (event : Event) → AreFollowing sessions past
+    → 1 ≤ who → who ≤ length sessions → TellsOne who reply past event →
+    IsReady after → (sid_of after).number ≡ who → Follows after false (reply ∷ heard_by who past) → AreFollowing (set sessions (who - 1) after) (event ∷ past)
+follow_turn sessions who after reply past event all some begun tells ready number follows place session found =
     ⊎_elim mine others (cases_Bool (who == place + 1))
   where
-    mine : (who == place + 1) ≡ true → IsReady session × ((sid_of session).number ≡ place + 1) × Follows session false (told_to (place + 1) (event ∷ past))
+    mine : (who == place + 1) ≡ true → IsReady session × ((sid_of session).number ≡ place + 1) × Follows session false (heard_by (place + 1) (event ∷ past))
     mine here =
         let is : who ≡ place + 1 = eqb-true who (place + 1) here in
         let at : who - 1 ≡ place = omega arith in
         let same : after ≡ session =
         some_same after session (sym (slice_get-set_same sessions (who - 1) after (omega arith)) ∙ ap (slice_get (set sessions (who - 1) after)) at ∙ found) in
-        let heard : told ∷ told_to who past ≡ told_to (place + 1) (event ∷ past) =
-        ap (λ (n : ℕ). told ∷ told_to n past) is ∙ ap (λ (b : Bool). cond b (told ∷ []) [] ++ told_to (place + 1) past) (sym here) ∙ sym (tells (place + 1)) in
-        let P : Session → Type 0 = λ s. IsReady s × ((sid_of s).number ≡ place + 1) × Follows s false (told_to (place + 1) (event ∷ past)) in
+        let heard : reply ∷ heard_by who past ≡ heard_by (place + 1) (event ∷ past) =
+        ap (λ (n : ℕ). reply ∷ heard_by n past) is ∙ ap (λ (b : Bool). cond b (reply ∷ []) [] ++ heard_by (place + 1) past) (sym here) ∙ sym (tells (place + 1)) in
+        let P : Session → Type 0 = λ s. IsReady s × ((sid_of s).number ≡ place + 1) × Follows s false (heard_by (place + 1) (event ∷ past)) in
         let Q : List Reply → Type 0 = λ heard. Follows after false heard in
         subst P same (ready, number ∙ is, subst Q heard follows)
 
-    others : (who == place + 1) ≡ false → IsReady session × ((sid_of session).number ≡ place + 1) × Follows session false (told_to (place + 1) (event ∷ past))
+    others : (who == place + 1) ≡ false → IsReady session × ((sid_of session).number ≡ place + 1) × Follows session false (heard_by (place + 1) (event ∷ past))
     others there =
         let differ : who - 1 ≢ place = λ e. false≢true (sym there ∙ eq-eqb who (place + 1) (omega arith)) in
         let old = all place session (sym (slice_get-set_other sessions (who - 1) place after differ) ∙ found) in
-        let heard : told_to (place + 1) past ≡ told_to (place + 1) (event ∷ past) =
-        ap (λ (b : Bool). cond b (told ∷ []) [] ++ told_to (place + 1) past) (sym there) ∙ sym (tells (place + 1)) in
+        let heard : heard_by (place + 1) past ≡ heard_by (place + 1) (event ∷ past) =
+        ap (λ (b : Bool). cond b (reply ∷ []) [] ++ heard_by (place + 1) past) (sym there) ∙ sym (tells (place + 1)) in
         let Q : List Reply → Type 0 = λ heard. Follows session false heard in
         (old.0, old.1, subst Q heard old.2)
 
 -- who isn't told is told as much as before
-pub still_told : (who number : ℕ) (told : Reply) (past : List Event) (event : Event) → TellsOne who told past event → who ≢ number
-    → told_to number (event ∷ past) ≡ told_to number past
-still_told who number told past event tells other =
+pub still_tells : (who number : ℕ) (reply : Reply) (past : List Event) (event : Event) → TellsOne who reply past event → who ≢ number
+    → heard_by number (event ∷ past) ≡ heard_by number past
+still_tells who number reply past event tells other =
     let apart : (who == number) ≡ false = grind (arith, rules) in
-    tells number ∙ ap (λ (b : Bool). cond b (told ∷ []) [] ++ told_to number past) apart
+    tells number ∙ ap (λ (b : Bool). cond b (reply ∷ []) [] ++ heard_by number past) apart
 
-pub none_turn : (sessions : List Session) (who : ℕ) (after : Session) (told : Reply) (past : List Event) (event : Event) → NoneUnbegun sessions past
-    → who ≤ length sessions → TellsOne who told past event → NoneUnbegun (set sessions (who - 1) after) (event ∷ past)
-none_turn sessions who after told past event none begun tells number above =
+pub none_turn : (sessions : List Session) (who : ℕ) (after : Session) (reply : Reply) (past : List Event) (event : Event) → NoneUnbegun sessions past
+    → who ≤ length sessions → TellsOne who reply past event → NoneUnbegun (set sessions (who - 1) after) (event ∷ past)
+none_turn sessions who after reply past event none begun tells number above =
     let far : length sessions < number = omega (arith, length-set sessions (who - 1) after) in
-    still_told who number told past event tells (omega (arith, far, begun)) ∙ none number far
+    still_tells who number reply past event tells (omega (arith, far, begun)) ∙ none number far
 
 -- writing a session with the same plan leaves the plans
 pub plans_turn : (sessions : List Session) (place : ℕ) (after session : Session) → slice_get sessions place ≡ Some session → plan_of after ≡ plan_of session
@@ -148,15 +148,15 @@ there (y ∷ xs) (suc place) h = there xs place (omega arith)
 -- what a session wants is what its own plan wants
 pub wants_is : (world : World) (who : Sid) (sessions : List Session) (session : Session) → map plan_of sessions ≡ world.plans
     → slice_get sessions (who.number - 1) ≡ Some session →
-    wants (plan_of session) false (told_to who.number world.past) ≡ wanted_of world who
+    wants (plan_of session) false (heard_by who.number world.past) ≡ wanted_of world who
 wants_is world who sessions session plans found =
-    ap (λ (o : Option Plan). wanted_by o (told_to who.number world.past)) (sym (plan_there sessions world.plans (who.number - 1) session plans found))
+    ap (λ (o : Option Plan). wanted_by o (heard_by who.number world.past)) (sym (plan_there sessions world.plans (who.number - 1) session plans found))
 
 -- what a turn tells, by session
-pub told_after : (shape : Shape) (world : World) (who : Sid) (request : Wanted) (said : Said) →
+pub heard_after : (shape : Shape) (world : World) (who : Sid) (request : Wanted) (said : Said) →
     TellsOne who.number (reply_in (event_of shape world who request said)) world.past (event_of shape world who request said)
-told_after shape world who request said number =
-    ap (λ (l : List Reply). l ++ told_to number world.past) ((event_turn shape world who request said).told number)
+heard_after shape world who request said number =
+    ap (λ (l : List Reply). l ++ heard_by number world.past) ((event_turn shape world who request said).replies_are number)
 
 is_true : (b : Bool) → b ≡ true → IsTrue b
 is_true true e = refl
@@ -210,35 +210,35 @@ waits_there core who session running some found =
     let world = world_of origin.shape moves in
     let following = at.sessions.following (who.number - 1) session found in
     let number : who.number - 1 + 1 ≡ who.number = omega arith in
-    let F : ℕ → Type 0 = λ n. Follows session false (told_to n world.past) in
+    let F : ℕ → Type 0 = λ n. Follows session false (heard_by n world.past) in
     let shards : origin.shape.shards ≢ 0 = λ e. absurd (omega (arith, at.kept.shards.fit.some_shards, e)) in
     record {
       ready = following.0;
       sid = sid_is (sid_of session) who (following.1 ∙ number);
-      heard = told_to who.number world.past;
+      heard = heard_by who.number world.past;
       follows = subst F number following.2;
       released = out_there core.shards origin.shape world who _ at.kept.shards
           (grant_facts origin.shape moves shards at.kept.plans) (wants_is world who core.sessions session at.sessions.plans found);
     }
 
 -- what is so after a turn
-abbrev pub TakesStep : Origin → List Move → Turn → CoreView → Result Told Memory → Type 0
+abbrev pub TakesStep : Origin → List Move → Turn → CoreView → Result TurnLine Memory → Type 0
 TakesStep origin moves turn new result =
-    MatchResult result (λ told. (said : Said) × IsAt new origin (Take turn said ∷ moves)
-    × IsToldOf (turn_event origin.shape (world_of origin.shape moves) turn said) told)
+    MatchResult result (λ printed. (said : Said) × IsAt new origin (Take turn said ∷ moves)
+    × IsLineOf (turn_event origin.shape (world_of origin.shape moves) turn said) printed)
     (λ _. HasKept new origin moves ⊎ ((said : Said) × HasKept new origin (Take turn said ∷ moves)))
 
 -- a turn whose event was made, and its line told unless memory ran out
-pub event_taken : (new : CoreView) (origin : Origin) (moves : List Move) (turn : Turn) (said : Said) (result : Result Told Memory)
-    → IsAt new origin (Take turn said ∷ moves) → IfOk result (IsToldOf (turn_event origin.shape (world_of origin.shape moves) turn said))
+pub event_taken : (new : CoreView) (origin : Origin) (moves : List Move) (turn : Turn) (said : Said) (result : Result TurnLine Memory)
+    → IsAt new origin (Take turn said ∷ moves) → IfOk result (IsLineOf (turn_event origin.shape (world_of origin.shape moves) turn said))
     → TakesStep origin moves turn new result
-event_taken new origin moves turn said (Ok told) at line = (said, at, line)
+event_taken new origin moves turn said (Ok printed) at line = (said, at, line)
 event_taken new origin moves turn said (Err memory) at line = inr (said, at.kept)
 
 -- and whose shards are whole, though memory ran out
-pub whole_taken : (new : CoreView) (origin : Origin) (moves : List Move) (turn : Turn) (result : Result Told Memory)
+pub whole_taken : (new : CoreView) (origin : Origin) (moves : List Move) (turn : Turn) (result : Result TurnLine Memory)
     → TakesStep origin moves turn new result → KeepAll new.shards
-whole_taken new origin moves turn (Ok told) taken = whole_shards new.shards origin.shape _ taken.1.kept.shards
+whole_taken new origin moves turn (Ok printed) taken = whole_shards new.shards origin.shape _ taken.1.kept.shards
 whole_taken new origin moves turn (Err memory) (inl kept) = whole_shards new.shards origin.shape _ kept.shards
 whole_taken new origin moves turn (Err memory) (inr made) = whole_shards new.shards origin.shape _ made.1.shards
 
@@ -246,10 +246,10 @@ whole_taken new origin moves turn (Err memory) (inr made) = whole_shards new.sha
 sweeper_same : (sweeper : Sweeper) (shape : Shape) (past : List Event) (event : Event) → swept_in event ≡ [] → HasSweeper sweeper shape past
     → HasSweeper sweeper shape (event ∷ past)
 sweeper_same sweeper shape past event none has =
-    record { shards = has.shards; following = subst (IsTold sweeper) (ap (λ (l : List SweepReply). l ++ sweeps_of past) (sym none)) has.following }
+    record { shards = has.shards; following = subst (HasHeard sweeper) (ap (λ (l : List SweepReply). l ++ sweeps_of past) (sym none)) has.following }
 
 -- the sessions after an event that is no session's
-pub sessions_same : (sessions : List Session) (world : World) (event : Event) → ((number : ℕ) → told_in number event ≡ []) → HasSessions sessions world
+pub sessions_same : (sessions : List Session) (world : World) (event : Event) → ((number : ℕ) → heard_in number event ≡ []) → HasSessions sessions world
     → HasSessions sessions (after world event)
 sessions_same sessions world event none has = record {
   plans = has.plans;
@@ -260,12 +260,12 @@ sessions_same sessions world event none has = record {
   nobody = same 0 ∙ has.nobody;
 }
   where
-    same : (number : ℕ) → told_to number (event ∷ world.past) ≡ told_to number world.past
-    same number = ap (λ (l : List Reply). l ++ told_to number world.past) (none number)
+    same : (number : ℕ) → heard_by number (event ∷ world.past) ≡ heard_by number world.past
+    same number = ap (λ (l : List Reply). l ++ heard_by number world.past) (none number)
 
 -- a turn of a session, which leaves the sweeper and the clock
 pub turn_taken : (old : CoreView) (shards : List ShardView) (store : StoreView) (sessions : List Session)
-    (origin : Origin) (moves : List Move) (who : Sid) (result : Result Told Memory) → IsAt old origin moves → HasBegun old (turn.Session who) →
+    (origin : Origin) (moves : List Move) (who : Sid) (result : Result TurnLine Memory) → IsAt old origin moves → HasBegun old (turn.Session who) →
     TakesOne old.shards old.store old.sessions who old.clock shards store sessions result → TakesStep origin moves (turn.Session who)
     (record { store = store; shards = shards; sessions = sessions; sweeper = old.sweeper; clock = old.clock }) result
 turn_taken old shards store sessions origin moves who result at has_begun takes = by result one.4 taken
@@ -295,10 +295,10 @@ turn_taken old shards store sessions origin moves who result at has_begun takes 
     number = omega (arith, some)
 
     heard : List Reply
-    heard = told_to who.number world.past
+    heard = heard_by who.number world.past
 
     follows : Follows found.0 false heard
-    follows = subst (λ (n : ℕ). Follows found.0 false (told_to n world.past)) number (at.sessions.following (who.number - 1) found.0 found.1).2
+    follows = subst (λ (n : ℕ). Follows found.0 false (heard_by n world.past)) number (at.sessions.following (who.number - 1) found.0 found.1).2
 
     taken : TakesTurn origin world who (wanted_of world who) heard shards store one.0 result
     taken =
@@ -313,13 +313,13 @@ turn_taken old shards store sessions origin moves who result at has_begun takes 
     sid : (sid_of one.0).number ≡ who.number
     sid = ap (λ (s : Sid). s.number) one.3 ∙ (at.sessions.following (who.number - 1) found.0 found.1).1 ∙ number
 
-    by : (r : Result Told Memory) → OnOk r (IsReady one.0) → TakesTurn origin world who (wanted_of world who) heard shards store one.0 r
+    by : (r : Result TurnLine Memory) → OnOk r (IsReady one.0) → TakesTurn origin world who (wanted_of world who) heard shards store one.0 r
         → TakesStep origin moves (turn.Session who) new r
-    by (Ok told) ready t =
+    by (Ok printed) ready t =
         let event = event_of origin.shape world who (wanted_of world who) t.0 in
         let answer = reply_in event in
         let is = event_turn origin.shape world who (wanted_of world who) t.0 in
-        let tells = told_after origin.shape world who (wanted_of world who) t.0 in
+        let tells = heard_after origin.shape world who (wanted_of world who) t.0 in
         let S : List Session → Type 0 = λ xs. AreFollowing xs (event ∷ world.past) in
         let N : List Session → Type 0 = λ xs. NoneUnbegun xs (event ∷ world.past) in (
           t.0,
@@ -333,7 +333,7 @@ turn_taken old shards store sessions origin moves who result at has_begun takes 
               following =
                   subst S (sym one.1) (follow_turn old.sessions who.number one.0 answer world.past event at.sessions.following some begun tells ready sid t.3);
               unbegun = subst N (sym one.1) (none_turn old.sessions who.number one.0 answer world.past event at.sessions.unbegun begun tells);
-              nobody = still_told who.number 0 answer world.past event tells (omega (arith, some)) ∙ at.sessions.nobody;
+              nobody = still_tells who.number 0 answer world.past event tells (omega (arith, some)) ∙ at.sessions.nobody;
             };
           },
           t.1,
@@ -342,11 +342,11 @@ turn_taken old shards store sessions origin moves who result at has_begun takes 
     by (Err memory) ready (inr made) = inr (made.0, kept made.0 made.1)
 
 -- a tick of the clock, which leaves the rest
-pub tick_taken : (old : CoreView) (now : ℕ) (origin : Origin) (moves : List Move) (by : ℕ) (result : Result Told Memory) → IsAt old origin moves
-    → now ≡ min (old.clock + by) (2 ^ 64 - 1) → IfOk result (IsToldOf (Ticked now)) → TakesStep origin moves (turn.Tick by)
+pub tick_taken : (old : CoreView) (now : ℕ) (origin : Origin) (moves : List Move) (by : ℕ) (result : Result TurnLine Memory) → IsAt old origin moves
+    → now ≡ min (old.clock + by) (2 ^ 64 - 1) → IfOk result (IsLineOf (Ticked now)) → TakesStep origin moves (turn.Tick by)
     (record { store = old.store; shards = old.shards; sessions = old.sessions; sweeper = old.sweeper; clock = now }) result
 tick_taken old now origin moves by result at ticks line =
-    event_taken new origin moves (turn.Tick by) Failed result ticked (subst (λ (n : ℕ). IfOk result (IsToldOf (Ticked n))) clock line)
+    event_taken new origin moves (turn.Tick by) Failed result ticked (subst (λ (n : ℕ). IfOk result (IsLineOf (Ticked n))) clock line)
   where
     new : CoreView
     new = record { store = old.store; shards = old.shards; sessions = old.sessions; sweeper = old.sweeper; clock = now }
@@ -378,10 +378,10 @@ tick_taken old now origin moves by result at ticks line =
     }
 
 -- no session is told anything of a step of the sweeper's
-untold : (shape : Shape) (world : World) (request : SweepWanted) (number : ℕ) → told_in number (sweep_of shape world request) ≡ []
-untold shape world (sweep.Scan place) number = refl
-untold shape world (sweep.End who) number = refl
-untold shape world (sweep.Drop key token) number = refl
+hears_none : (shape : Shape) (world : World) (request : SweepWanted) (number : ℕ) → heard_in number (sweep_of shape world request) ≡ []
+hears_none shape world (sweep.Scan place) number = refl
+hears_none shape world (sweep.End who) number = refl
+hears_none shape world (sweep.Drop key token) number = refl
 
 -- and the clock doesn't move
 unmoved : (shape : Shape) (world : World) (request : SweepWanted) → now_of (sweep_of shape world request ∷ world.past) ≡ now_of world.past
@@ -406,7 +406,7 @@ sweeper_numbered core running =
 
 -- a step of the sweeper's, which leaves the sessions and the clock
 pub sweep_taken : (old : CoreView) (shards : List ShardView) (store : StoreView) (sweeper : Sweeper)
-    (origin : Origin) (moves : List Move) (result : Result Told Memory) → IsAt old origin moves →
+    (origin : Origin) (moves : List Move) (result : Result TurnLine Memory) → IsAt old origin moves →
     ((origin : Origin) (world : World) → AreAfter old.shards old.store origin world → old.clock ≡ now_of world.past
     → HasSweeper old.sweeper origin.shape world.past → TakesSweep origin world shards store sweeper result) → TakesStep origin moves turn.Sweep
     (record { store = store; shards = shards; sessions = old.sessions; sweeper = sweeper; clock = old.clock }) result
@@ -431,7 +431,7 @@ sweep_taken old shards store sweeper origin moves result at sweeps =
       clock = at.clock ∙ sym (unmoved origin.shape world request);
       sweeper = takes.1;
       phases = takes.0.1.1;
-      sessions = sessions_same old.sessions world (sweep_of origin.shape world request) (untold origin.shape world request) at.sessions;
+      sessions = sessions_same old.sessions world (sweep_of origin.shape world request) (hears_none origin.shape world request) at.sessions;
     }
 
 -- a claim by cases gives each of its cases

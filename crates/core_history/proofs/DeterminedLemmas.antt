@@ -21,7 +21,7 @@ use Rattle.session_client.specs.declared.replies.Wanted.{Wanted}
 use Rattle.session_client.specs.declared.replies.Wanted.TheVariants as wanted
 use Rattle.core_history.specs.Events.{Event, Called, log_of}
 use Rattle.core_history.specs.Machine.{World, Move, Begin, Take, Said, Value, Made, Rejected, is_open, log_cap, with_plan, taken, turn_event}
-use Rattle.core_history.specs.Machine.{event_of, wanted_of, ask_told, staged_told, commit_said, commit_by, world_of}
+use Rattle.core_history.specs.Machine.{event_of, wanted_of, ask_reply, staged_reply, commit_said, commit_by, world_of}
 use Rattle.core_history.specs.Truth.{IsTrueReply, IsTrueEvent, IsTruePast}
 use Rattle.core_history.specs.Lines.{tells_fault, is_fault, fault_turns}
 use Rattle.core_history.specs.Determined.{cue_of, Turns, Adds, RunsAreDetermined}
@@ -35,10 +35,10 @@ module _ {A : Type 0} where
   tails x y xs ys e = cc
 
 -- two values that are both a key's answer on the same rows
-ask_same : (past : List Event) (rows : Tables) (key : QKey) (one two : Said) → IsTrueReply rows (wanted.Ask key) (ask_told past key one)
-    → IsTrueReply rows (wanted.Ask key) (ask_told past key two) → tells_fault (ask_told past key one) ≡ tells_fault (ask_told past key two)
-    → ask_told past key one ≡ ask_told past key two
-ask_same past rows key (Value value) (Value other) one two same = ap (λ v. ask_told past key (Value v)) (one ∙ sym two)
+ask_same : (past : List Event) (rows : Tables) (key : QKey) (one two : Said) → IsTrueReply rows (wanted.Ask key) (ask_reply past key one)
+    → IsTrueReply rows (wanted.Ask key) (ask_reply past key two) → tells_fault (ask_reply past key one) ≡ tells_fault (ask_reply past key two)
+    → ask_reply past key one ≡ ask_reply past key two
+ask_same past rows key (Value value) (Value other) one two same = ap (λ v. ask_reply past key (Value v)) (one ∙ sym two)
 ask_same past rows key (Value value) other one two same = absurd cc
 ask_same past rows key other (Value value) one two same = absurd cc
 ask_same past rows key other another one two same = refl
@@ -48,16 +48,16 @@ ok_same : {a b : Tables} {found : Result Tables ℕ} → found ≡ Ok a → foun
 ok_same e f = cc
 
 -- two values that are both the answer after the transaction, which applies on rows or fails at one change of it
-staged_same : (rows : Tables) (key : QKey) (txn : List Change) (one two : Said) → IsTrueReply rows (wanted.Staged key txn) (staged_told txn one)
-    → IsTrueReply rows (wanted.Staged key txn) (staged_told txn two) → tells_fault (staged_told txn one) ≡ tells_fault (staged_told txn two)
-    → staged_told txn one ≡ staged_told txn two
+staged_same : (rows : Tables) (key : QKey) (txn : List Change) (one two : Said) → IsTrueReply rows (wanted.Staged key txn) (staged_reply txn one)
+    → IsTrueReply rows (wanted.Staged key txn) (staged_reply txn two) → tells_fault (staged_reply txn one) ≡ tells_fault (staged_reply txn two)
+    → staged_reply txn one ≡ staged_reply txn two
 staged_same rows key txn (Value value) (Value other) one two same =
-    ap (λ v. staged_told txn (Value v)) (one.2 ∙ ap (answer key) (ok_same one.1 two.1) ∙ sym two.2)
+    ap (λ v. staged_reply txn (Value v)) (one.2 ∙ ap (answer key) (ok_same one.1 two.1) ∙ sym two.2)
 staged_same rows key txn (Value value) (Rejected index) (after, one, is) two same = absurd cc
 staged_same rows key txn (Value value) other one two same = absurd cc
 staged_same rows key txn (Rejected index) (Value value) one (after, two, is) same = absurd cc
 staged_same rows key txn (Rejected index) (Rejected other) one two same =
-    let is : index ≡ other = cc in ap (λ n. staged_told txn (Rejected n)) is
+    let is : index ≡ other = cc in ap (λ n. staged_reply txn (Rejected n)) is
 staged_same rows key txn (Rejected index) other one two same = absurd cc
 staged_same rows key txn other (Value value) one two same = absurd cc
 staged_same rows key txn other (Rejected index) one two same = absurd cc
@@ -93,13 +93,13 @@ event_same : (shape : Shape) (rows : Tables) (world : World) (who : Sid) (one tw
     → is_fault (event_of shape world who request one) ≡ is_fault (event_of shape world who request two)
     → event_of shape world who request one ≡ event_of shape world who request two
 event_same shape rows world who one two (wanted.Ask key) true_one true_two same =
-    ap (λ told. Called who (wanted.Ask key) told) (ask_same world.past rows key one two true_one true_two same)
+    ap (λ reply. Called who (wanted.Ask key) reply) (ask_same world.past rows key one two true_one true_two same)
 event_same shape rows world who one two (wanted.Staged key txn) true_one true_two same =
-    ap (λ told. Called who (wanted.Staged key txn) told) (staged_same rows key txn one two true_one true_two same)
+    ap (λ reply. Called who (wanted.Staged key txn) reply) (staged_same rows key txn one two true_one true_two same)
 event_same shape rows world who one two (wanted.Commit txn grants) true_one true_two same =
     let count = length (log_of world.past) in
     let fault = commit_fault (is_open world who) who grants.items txn count log_cap in
-    ap (λ told. Called who (wanted.Commit txn grants) told) (by_same rows (wanted.Commit txn grants) count txn grants one two fault true_one true_two same)
+    ap (λ reply. Called who (wanted.Commit txn grants) reply) (by_same rows (wanted.Commit txn grants) count txn grants one two fault true_one true_two same)
 event_same shape rows world who one two other true_one true_two same = refl
 
 -- so it is of each turn: ticks and sweeps are told by the events before

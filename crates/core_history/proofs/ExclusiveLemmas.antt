@@ -30,7 +30,7 @@ use Rattle.key_freshness.proofs.MomentSteps.{moment-of, since-refl, since-append
 use Rattle.key_freshness.proofs.WriteLemmas.{put_is_held}
 use Rattle.core_history.specs.Events.{Event, log_of, known_of}
 use Rattle.core_history.specs.Facts.{Found, found_at, grants_as}
-use Rattle.core_history.proofs.GoodEvents.{IsGoodGrant, IsGoodRaise, WritesOwn, SetsTold, IsGoodStep}
+use Rattle.core_history.proofs.GoodEvents.{IsGoodGrant, IsGoodRaise, WritesOwn, SetsAnswer, IsGoodStep}
 use Rattle.core_history.proofs.ListLemmas.{every-append, every-filter, and_elim, or_elim}
 
 -- what a quarantine found when it was granted, which was a moment of its session alone, is the entry now or the entry is gone
@@ -422,7 +422,7 @@ module _ (events after : List Event) (steps : List Step) where
 
   -- a value is stored where no quarantine stands that has the key for itself
   stored_on : (key on : QKey) (who : Sid) (token : ℕ) (value : List ℕ) (stamp : ℕ) (gone b : Bool) → same_key key on ≡ b → IsBefore key
-      → SetsTold events steps who on token value stamp → FindsSame key
+      → SetsAnswer events steps who on token value stamp → FindsSame key
       → Alone key (standing key steps) (cond b (Wrote stamp ∷ []) []) (cond b (Some (value, stamp)) (cond gone None (entry key steps)))
   stored_on key on who token value stamp gone true same is sets finds = by is.alone
     where

@@ -21,7 +21,7 @@ use Rattle.expiry_sweeper.specs.declared.replies.SweepReply.TheVariants as sweep
 use Rattle.expiry_sweeper.specs.declared.replies.SweepWanted.{SweepWanted}
 use Rattle.expiry_sweeper.specs.declared.replies.SweepWanted.TheVariants as sweep
 use Rattle.sql_keeper.specs.declared.stores.Closed.{Closed}
-use Rattle.expiry_sweeper.specs.Sweeps.{sweep_wants, scan_told}
+use Rattle.expiry_sweeper.specs.Sweeps.{sweep_wants, scan_reply}
 use Rattle.key_freshness.specs.Known.{IsAmong, IsOver, IsMore}
 use Rattle.key_freshness.specs.Marks.{marks_of}
 use Rattle.key_freshness.proofs.KnownLemmas.{more-trans, more-length, over-then}
@@ -93,11 +93,11 @@ made_drop : (shape : Shape) (world : World) (home : ℕ) (key : QKey) (token : �
 made_drop shape world home key token s None wants stands at made = absurd (none_some s made)
 made_drop shape world home key token s (Some quar) wants stands at made = record { wants = wants; quar = quar; stands = stands; at = at; ends = cc }
 
-sweep_drop : (shape : Shape) (world : World) (request : SweepWanted) (home : ℕ) (key : QKey) (token : ℕ) (s : Step) (told : SweepReply)
-    → swept_next shape world ≡ request → sweep_of shape world request ≡ Swept home (sweep.Drop key token) (Some s) told → IsDrop shape world home key token s
-sweep_drop shape world (sweep.Scan place) home key token s told wants e = absurd cc
-sweep_drop shape world (sweep.End who) home key token s told wants e = absurd cc
-sweep_drop shape world (sweep.Drop on gone) home key token s told wants e =
+sweep_drop : (shape : Shape) (world : World) (request : SweepWanted) (home : ℕ) (key : QKey) (token : ℕ) (s : Step) (reply : SweepReply)
+    → swept_next shape world ≡ request → sweep_of shape world request ≡ Swept home (sweep.Drop key token) (Some s) reply → IsDrop shape world home key token s
+sweep_drop shape world (sweep.Scan place) home key token s reply wants e = absurd cc
+sweep_drop shape world (sweep.End who) home key token s reply wants e = absurd cc
+sweep_drop shape world (sweep.Drop on gone) home key token s reply wants e =
     let same : sweep.Drop on gone ≡ sweep.Drop key token = cc in
     let k : on ≡ key = cc in
     let t : gone ≡ token = cc in
@@ -108,69 +108,69 @@ sweep_drop shape world (sweep.Drop on gone) home key token s told wants e =
     (subst (λ k. sweep_step (steps_at shape world.past k) k token
     ≡ Some s) k (subst (λ (t : ℕ). sweep_step (steps_at shape world.past on) on t ≡ Some s) t made))
 
-turn_drop : (shape : Shape) (world : World) (turn : Turn) (said : Said) (home : ℕ) (key : QKey) (token : ℕ) (s : Step) (told : SweepReply)
-    → turn_event shape world turn said ≡ Swept home (sweep.Drop key token) (Some s) told → IsDrop shape world home key token s
-turn_drop shape world (turn.Session who) said home key token s told e =
-    absurd (no_told told (sym (session_turn shape world who said (wanted_of world who)) ∙ ap swept_in e))
+turn_drop : (shape : Shape) (world : World) (turn : Turn) (said : Said) (home : ℕ) (key : QKey) (token : ℕ) (s : Step) (reply : SweepReply)
+    → turn_event shape world turn said ≡ Swept home (sweep.Drop key token) (Some s) reply → IsDrop shape world home key token s
+turn_drop shape world (turn.Session who) said home key token s reply e =
+    absurd (no_reply_there reply (sym (session_turn shape world who said (wanted_of world who)) ∙ ap swept_in e))
   where
-    no_told : (x : SweepReply) → [] ≡ x ∷ [] → ⊥
-    no_told x e = cc
-turn_drop shape world (turn.Tick by) said home key token s told e = absurd cc
-turn_drop shape world turn.Sweep said home key token s told e = sweep_drop shape world (swept_next shape world) home key token s told refl e
+    no_reply_there : (x : SweepReply) → [] ≡ x ∷ [] → ⊥
+    no_reply_there x e = cc
+turn_drop shape world (turn.Tick by) said home key token s reply e = absurd cc
+turn_drop shape world turn.Sweep said home key token s reply e = sweep_drop shape world (swept_next shape world) home key token s reply refl e
 
 -- a drop is wanted of what a scan found, once that session was ended
-record IsFound (told : List SweepReply) (key : QKey) (token : ℕ) : Type 0 where
+record IsFound (replies : List SweepReply) (key : QKey) (token : ℕ) : Type 0 where
   pub at : ℕ
   pub due : Due
   pub closing : Closed
   pub rest : List SweepReply
-  pub last : told ≡ sweeps.Ended closing ∷ sweeps.Found at due ∷ rest
+  pub last : replies ≡ sweeps.Ended closing ∷ sweeps.Found at due ∷ rest
   pub of_key : due.key ≡ key
   pub of_token : due.token ≡ token
 
-found_first : (shards : ℕ) (told : List SweepReply) (key : QKey) (token : ℕ) → sweep_wants shards told ≡ sweep.Drop key token → IsFound told key token
-found_first shards told key token =
-    sweep_cases (λ request. request ≡ sweep.Drop key token → IsFound told key token) shards told (λ place e. absurd cc) (λ at due rest last e. absurd cc)
+found_first : (shards : ℕ) (replies : List SweepReply) (key : QKey) (token : ℕ) → sweep_wants shards replies ≡ sweep.Drop key token → IsFound replies key token
+found_first shards replies key token =
+    sweep_cases (λ request. request ≡ sweep.Drop key token → IsFound replies key token) shards replies (λ place e. absurd cc) (λ at due rest last e. absurd cc)
     (λ at due closing rest last e. record { at = at; due = due; closing = closing; rest = rest; last = last; of_key = cc; of_token = cc })
 
 -- where the sweeper was told last that a session was ended, after it was found, it ended that session
-abbrev IsEndTold : List Event → Closed → ℕ → Due → List SweepReply → Type 0
-IsEndTold past closing at due rest = sweeps_of past ≡ sweeps.Ended closing ∷ sweeps.Found at due ∷ rest
+abbrev IsEndHeard : List Event → Closed → ℕ → Due → List SweepReply → Type 0
+IsEndHeard past closing at due rest = sweeps_of past ≡ sweeps.Ended closing ∷ sweeps.Found at due ∷ rest
 
 ended_longer : (event : Event) (past : List Event) (sid : Sid) → WasEnded sid past → WasEnded sid (event ∷ past)
 ended_longer event past sid end = record { was = end.was; between = event ∷ end.between; earlier = end.earlier; is = ap (λ l. event ∷ l) end.is }
 
-not_scanned : (place : ℕ) (found : Option Due) (closing : Closed) → scan_told place found ≡ sweeps.Ended closing → ⊥
+not_scanned : (place : ℕ) (found : Option Due) (closing : Closed) → scan_reply place found ≡ sweeps.Ended closing → ⊥
 not_scanned place None closing e = cc
 not_scanned place (Some other) closing e = cc
 
 ended_swept : (shape : Shape) (world : World) (request : SweepWanted) (closing : Closed) (at : ℕ) (due : Due) (rest : List SweepReply)
-    → swept_next shape world ≡ request → IsEndTold (sweep_of shape world request ∷ world.past) closing at due rest → WasEnded due.sid (sweep_of shape world request ∷ world.past)
-ended_swept shape world (sweep.Scan place) closing at due rest wants told = absurd (not_scanned place _ closing (first_same told))
-ended_swept shape world (sweep.End who) closing at due rest wants told =
-    let found : sweeps_of world.past ≡ sweeps.Found at due ∷ rest = rest_same told in
+    → swept_next shape world ≡ request → IsEndHeard (sweep_of shape world request ∷ world.past) closing at due rest → WasEnded due.sid (sweep_of shape world request ∷ world.past)
+ended_swept shape world (sweep.Scan place) closing at due rest wants same = absurd (not_scanned place _ closing (first_same same))
+ended_swept shape world (sweep.End who) closing at due rest wants is_so =
+    let found : sweeps_of world.past ≡ sweeps.Found at due ∷ rest = rest_same is_so in
     let same : sweep.End who ≡ sweep.End due.sid = sym wants ∙ ap (sweep_wants shape.shards) found in
     let is : who ≡ due.sid = cc in
     subst (λ w. WasEnded w (sweep_of shape world (sweep.End who) ∷ world.past)) is
     (record { was = is_open world who; between = []; earlier = world.past; is = refl })
-ended_swept shape world (sweep.Drop key token) closing at due rest wants told = absurd cc
+ended_swept shape world (sweep.Drop key token) closing at due rest wants same = absurd cc
 
 ended_turn : (shape : Shape) (world : World) (turn : Turn) (said : Said) (closing : Closed) (at : ℕ) (due : Due) (rest : List SweepReply)
-    → (IsEndTold world.past closing at due rest → WasEnded due.sid world.past)
-    → IsEndTold (turn_event shape world turn said ∷ world.past) closing at due rest → WasEnded due.sid (turn_event shape world turn said ∷ world.past)
-ended_turn shape world (turn.Session who) said closing at due rest before told =
+    → (IsEndHeard world.past closing at due rest → WasEnded due.sid world.past)
+    → IsEndHeard (turn_event shape world turn said ∷ world.past) closing at due rest → WasEnded due.sid (turn_event shape world turn said ∷ world.past)
+ended_turn shape world (turn.Session who) said closing at due rest before same =
     let none = session_turn shape world who said (wanted_of world who) in
-    ended_longer (turn_event shape world (turn.Session who) said) world.past due.sid (before (sym (ap (λ l. l ++ sweeps_of world.past) none) ∙ told))
-ended_turn shape world (turn.Tick by) said closing at due rest before told = ended_longer (turn_event shape world (turn.Tick by) said) world.past due.sid (before told)
-ended_turn shape world turn.Sweep said closing at due rest before told = ended_swept shape world (swept_next shape world) closing at due rest refl told
+    ended_longer (turn_event shape world (turn.Session who) said) world.past due.sid (before (sym (ap (λ l. l ++ sweeps_of world.past) none) ∙ same))
+ended_turn shape world (turn.Tick by) said closing at due rest before same = ended_longer (turn_event shape world (turn.Tick by) said) world.past due.sid (before same)
+ended_turn shape world turn.Sweep said closing at due rest before same = ended_swept shape world (swept_next shape world) closing at due rest refl same
 
 ended_run : (shape : Shape) (moves : List Move) (closing : Closed) (at : ℕ) (due : Due) (rest : List SweepReply)
-    → IsEndTold (world_of shape moves).past closing at due rest
+    → IsEndHeard (world_of shape moves).past closing at due rest
     → WasEnded due.sid (world_of shape moves).past
-ended_run shape [] closing at due rest told = absurd cc
-ended_run shape (Begin plan ∷ moves) closing at due rest told = ended_run shape moves closing at due rest told
-ended_run shape (Take turn said ∷ moves) closing at due rest told =
-    ended_turn shape (world_of shape moves) turn said closing at due rest (λ before. ended_run shape moves closing at due rest before) told
+ended_run shape [] closing at due rest same = absurd cc
+ended_run shape (Begin plan ∷ moves) closing at due rest same = ended_run shape moves closing at due rest same
+ended_run shape (Take turn said ∷ moves) closing at due rest same =
+    ended_turn shape (world_of shape moves) turn said closing at due rest (λ before. ended_run shape moves closing at due rest before) same
 
 -- where one quarantine stands, and one is found, it passes the test
 only_has : (p : Quar → Bool) (x y : Quar) → find p (x ∷ []) ≡ Some y → p x ≡ true
@@ -219,7 +219,7 @@ module _ (shape : Shape) (key : QKey) (token : ℕ) where
 
   -- the sweeper made this step to drop the quarantine
   abbrev sweeping : SweepReply → ℕ → Step → Event
-  sweeping told home s = Swept home (sweep.Drop key token) (Some s) told
+  sweeping reply home s = Swept home (sweep.Drop key token) (Some s) reply
 
   -- all that is kept since the drop
   record IsDone (s : Step) (before after past : List Event) : Type 0 where
@@ -261,47 +261,47 @@ module _ (shape : Shape) (key : QKey) (token : ℕ) where
         ∙ ap (filter stays) one.only ∙ ap (λ b. cond (not b) (one.quar ∷ []) []) has in
         absurd (none_some other (sym (ap (find (has_token t)) left) ∙ is))
 
-    drop_here : (told : SweepReply) → on (sweeping told place dropped ∷ world.past) ≡ dropped ∷ steps
-    drop_here told = ap (λ b. cond b (dropped ∷ []) [] ++ steps) (eq-eqb place place refl)
+    drop_here : (reply : SweepReply) → on (sweeping reply place dropped ∷ world.past) ≡ dropped ∷ steps
+    drop_here reply = ap (λ b. cond b (dropped ∷ []) [] ++ steps) (eq-eqb place place refl)
 
-    drop_since : (least : ℕ) (told : SweepReply) → Since shape key least (sweeping told place dropped ∷ world.past)
-    drop_since least told =
-        let here = drop_here told in
+    drop_since : (least : ℕ) (reply : SweepReply) → Since shape key least (sweeping reply place dropped ∷ world.past)
+    drop_since least reply =
+        let here = drop_here reply in
         record {
           held = subst (λ l. IsEntrySince least (entry key l)) (sym here) (subst (IsEntrySince least) (sym no_entry) tt);
           leased = λ lease commits is at. absurd (no_lease lease (subst (λ l. recorded key l ≡ Some lease) here is));
           granted = λ t other found is apart at. absurd (apart (all_invalidate t other (holds.alone key) (subst (λ l. quar_of key t l ≡ Some other) here is)));
         }
 
-    drop_done : (told : SweepReply) → IsGoodEvent shape world.past (sweeping told place dropped) → WasEnded quar.sid world.past
-        → IsDone dropped world.past [] (sweeping told place dropped ∷ world.past)
-    drop_done told good ended =
+    drop_done : (reply : SweepReply) → IsGoodEvent shape world.past (sweeping reply place dropped) → WasEnded quar.sid world.past
+        → IsDone dropped world.past [] (sweeping reply place dropped ∷ world.past)
+    drop_done reply good ended =
         let next = next_token (terms_of shape place) steps in
         let found = every-found (λ q. q.token < next) (has_token token) (standing key steps) quar (stands_well shape world inner key).below stands in
         let below = found.0 in
         let is : quar.token ≡ token = eqb-true quar.token token found.1 in
-        let later = next-append (terms_of shape place) (steps_in place (sweeping told place dropped)) steps in
+        let later = next-append (terms_of shape place) (steps_in place (sweeping reply place dropped)) steps in
         record {
           sid = quar.sid;
           ends = refl;
           ended = ended;
           over = good.0.over;
           drawn = omega (arith, is, below, later);
-          gone = subst IsGone (sym (drop_here told)) (ended-gone steps key quar.sid token Drop);
-          since = drop_since (length (log_of world.past)) told;
-          more = event_more (sweeping told place dropped) world.past;
+          gone = subst IsGone (sym (drop_here reply)) (ended-gone steps key quar.sid token Drop);
+          since = drop_since (length (log_of world.past)) reply;
+          more = event_more (sweeping reply place dropped) world.past;
           hits = tt;
         }
 
   -- the turn that drops it
-  drop_turn : (moves : List Move) (turn : Turn) (said : Said) (home : ℕ) (s : Step) (told : SweepReply)
-      → turn_event shape (world_of shape moves) turn said ≡ sweeping told home s
+  drop_turn : (moves : List Move) (turn : Turn) (said : Said) (home : ℕ) (s : Step) (reply : SweepReply)
+      → turn_event shape (world_of shape moves) turn said ≡ sweeping reply home s
       → IsDone s (world_of shape moves).past [] (turn_event shape (world_of shape moves) turn said ∷ (world_of shape moves).past)
-  drop_turn moves turn said home s told is =
+  drop_turn moves turn said home s reply is =
       let world = world_of shape moves in
       let past = world.past in
       let inner = inner_of shape moves in
-      let drop = turn_drop shape world turn said home key token s told is in
+      let drop = turn_drop shape world turn said home key token s reply is in
       let found = found_first shape.shards (sweeps_of past) key token drop.wants in
       let due = found.due in
       let theirs = (subst (IsSweeping shape world.plans past) found.last inner.sweeping).0 in
@@ -310,8 +310,8 @@ module _ (shape : Shape) (key : QKey) (token : ℕ) where
       let mine : due.sid ≡ drop.quar.sid = sym (theirs.mine drop.quar stands) in
       let ended = subst (λ w. WasEnded w past) mine (ended_run shape moves found.closing found.at due found.rest found.last) in
       let good = subst (IsGoodEvent shape past) is (taken-inner shape world turn said inner).1 in
-      let D : ℕ → Step → Type 0 = λ h x. IsGoodEvent shape past (sweeping told h x) → IsDone x past [] (sweeping told h x ∷ past) in
-      let here : D place (Released key drop.quar.sid token Drop) = λ g. drop_done world inner (run_holds shape moves) drop.quar drop.stands told g ended in
+      let D : ℕ → Step → Type 0 = λ h x. IsGoodEvent shape past (sweeping reply h x) → IsDone x past [] (sweeping reply h x ∷ past) in
+      let here : D place (Released key drop.quar.sid token Drop) = λ g. drop_done world inner (run_holds shape moves) drop.quar drop.stands reply g ended in
       subst (λ e. IsDone s past [] (e ∷ past)) (sym is) (subst (λ h. D h s) drop.at (subst (D place) drop.ends here) good)
     where
       on_key : QKey → List Step
@@ -321,20 +321,20 @@ module _ (shape : Shape) (key : QKey) (token : ℕ) where
   gone_more : (event : Event) (past : List Event)
       → ((home : ℕ) → IsLegalPast (terms_of shape home) (steps_of home (event ∷ past))) → IsGoodEvent shape past event
       → token < next_token (terms_of shape place) (on past) → IsGone (on past) → IsGone (on (event ∷ past))
-  gone_more (Stepped home who request s told) past legal good low none =
+  gone_more (Stepped home who request s reply) past legal good low none =
       let answers : Answers (terms_of shape home) (steps_of home past) s =
       (subst (λ b. IsLegalPast (terms_of shape home) (cond b (s ∷ []) [] ++ steps_of home past)) (eq-eqb home home refl) (legal home)).0 in
       let late = (draws-late shape past home s answers key token low).1 in
       maybe-step IsGone (home == place) s (on past)
       (λ _. none_from key token (on past) (quar_of key token (s ∷ on past)) none (λ quar is. quar-was s key token (on past) quar late is)) (λ _. none)
-  gone_more (Called who request told) past legal good low none = none
+  gone_more (Called who request reply) past legal good low none = none
   gone_more (Ticked now) past legal good low none = none
-  gone_more (Swept home request None told) past legal good low none = subst IsGone (sym (unmade-steps place home request told past)) none
-  gone_more (Swept home request (Some (Released on_key sid gone Drop)) told) past legal good low none =
+  gone_more (Swept home request None reply) past legal good low none = subst IsGone (sym (unmade-steps place home request reply past)) none
+  gone_more (Swept home request (Some (Released on_key sid gone Drop)) reply) past legal good low none =
       let s = Released on_key sid gone Drop in
       maybe-step IsGone (home == place) s (on past)
       (λ _. none_from key token (on past) (quar_of key token (s ∷ on past)) none (λ quar is. quar-was s key token (on past) quar refl is)) (λ _. none)
-  gone_more (Swept home request (Some other) told) past legal good low none = absurd good.0
+  gone_more (Swept home request (Some other) reply) past legal good low none = absurd good.0
 
   -- after one more event
   more_done : (event : Event) (past : List Event) (s : Step) (before after : List Event)
@@ -359,20 +359,20 @@ module _ (shape : Shape) (key : QKey) (token : ℕ) where
       }
 
   -- in each run
-  run_done : (before : List Event) (home : ℕ) (s : Step) (told : SweepReply) (moves : List Move) (after : List Event)
-      → (world_of shape moves).past ≡ after ++ sweeping told home s ∷ before → IsDone s before after (world_of shape moves).past
-  run_done before home s told [] [] e = absurd cc
-  run_done before home s told [] (event ∷ after) e = absurd cc
-  run_done before home s told (Begin plan ∷ moves) after e = run_done before home s told moves after e
-  run_done before home s told (Take turn said ∷ moves) [] e =
+  run_done : (before : List Event) (home : ℕ) (s : Step) (reply : SweepReply) (moves : List Move) (after : List Event)
+      → (world_of shape moves).past ≡ after ++ sweeping reply home s ∷ before → IsDone s before after (world_of shape moves).past
+  run_done before home s reply [] [] e = absurd cc
+  run_done before home s reply [] (event ∷ after) e = absurd cc
+  run_done before home s reply (Begin plan ∷ moves) after e = run_done before home s reply moves after e
+  run_done before home s reply (Take turn said ∷ moves) [] e =
       subst (λ l. IsDone s l [] (turn_event shape (world_of shape moves) turn said ∷ (world_of shape moves).past)) (rest_same e)
-      (drop_turn moves turn said home s told (first_same e))
-  run_done before home s told (Take turn said ∷ moves) (first ∷ after) e =
+      (drop_turn moves turn said home s reply (first_same e))
+  run_done before home s reply (Take turn said ∷ moves) (first ∷ after) e =
       let world = world_of shape moves in
       let event = turn_event shape world turn said in
       let next = taken-inner shape world turn said (inner_of shape moves) in
       subst (λ x. IsDone s before (x ∷ after) (event ∷ world.past)) (first_same e)
-      (more_done event world.past s before after next.0.legal (run_holds shape moves) next.1 (run_done before home s told moves after (rest_same e)))
+      (more_done event world.past s before after next.0.legal (run_holds shape moves) next.1 (run_done before home s reply moves after (rest_same e)))
 
   weaker : (low high : ℕ) (events : List Event) → low ≤ high → AreHitsSince shape key high events → AreHitsSince shape key low events
   weaker low high events le hits = every-weaker (IsHitSince key high) (IsHitSince key low) (steps_of place events) (hit_weaker key low high le) hits
@@ -396,9 +396,9 @@ module _ (shape : Shape) (key : QKey) (token : ℕ) where
       omega (arith, is, within)
 
 pub sweeps_final : SweepsAreFinal
-sweeps_final shape moves before after home key token s told e =
+sweeps_final shape moves before after home key token s reply e =
     let past = (world_of shape moves).past in
-    let done = run_done shape key token before home s told moves after e in
+    let done = run_done shape key token before home s reply moves after e in
     let all = length (log_of before) in
     record {
       sid = done.sid;

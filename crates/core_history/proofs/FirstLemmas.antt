@@ -25,10 +25,10 @@ step-first past steps who (step.Raised on sid token) good = unlogged sid.number 
 step-first past steps who other good = tt
 
 event-first : (shape : Shape) (past : List Event) (event : Event) → IsGoodEvent shape past event → RaisesFirst past event
-event-first shape past (Stepped home who request s told) good = step-first past (steps_of home past) who s good.good
-event-first shape past (Called who request told) good = tt
+event-first shape past (Stepped home who request s reply) good = step-first past (steps_of home past) who s good.good
+event-first shape past (Called who request reply) good = tt
 event-first shape past (Ticked now) good = tt
-event-first shape past (Swept home request made told) good = tt
+event-first shape past (Swept home request made reply) good = tt
 
 pub runs_raised : (shape : Shape) (moves : List Move) → AreRaisedFirst (world_of shape moves).past
 runs_raised shape [] = tt

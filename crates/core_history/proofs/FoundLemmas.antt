@@ -18,8 +18,8 @@ use Rattle.session_client.specs.declared.plans.Shape.{Shape}
 use Rattle.session_client.specs.declared.plans.Turn.{Turn}
 use Rattle.session_client.specs.declared.plans.Turn.TheVariants as turn
 use Rattle.session_client.specs.declared.replies.Reply.{Reply}
-use Rattle.core_history.specs.Events.{Event, steps_of, told_in, told_to, swept_in, sweeps_of, now_of}
-use Rattle.expiry_sweeper.specs.Sweeps.{scan_told}
+use Rattle.core_history.specs.Events.{Event, steps_of, heard_in, heard_by, swept_in, sweeps_of, now_of}
+use Rattle.expiry_sweeper.specs.Sweeps.{scan_reply}
 use Rattle.core_history.specs.Machine.{World, Move, Begin, Take, Said, terms_of, wanted_of, sweep_of, swept_next, turn_event, world_of}
 use Rattle.core_history.specs.Sweeping.{IsNumbered}
 use Rattle.core_history.proofs.EventLemmas.{IsKnown, ever}
@@ -32,21 +32,21 @@ use Rattle.core_history.proofs.WorldLemmas.{inner_of}
 
 -- the session of this number was told something
 abbrev pub IsHeard : List Event → ℕ → Type 0
-IsHeard past number = told_to number past ≢ []
+IsHeard past number = heard_by number past ≢ []
 
 pub none-behind : {X : Type 0} (xs ys : List X) → xs ++ ys ≡ [] → ys ≡ []
 none-behind [] ys e = e
 none-behind (x ∷ xs) ys e = absurd cc
 
 heard-more : (event : Event) (past : List Event) (number : ℕ) → IsHeard past number → IsHeard (event ∷ past) number
-heard-more event past number heard none = heard (none-behind (told_in number event) (told_to number past) none)
+heard-more event past number heard none = heard (none-behind (heard_in number event) (heard_by number past) none)
 
 -- where a reply tells of what a scan found, its session was told something
 abbrev IsOfHeard : List Event → SweepReply → Type 0
 IsOfHeard past (sweeps.Found at due) = IsHeard past due.sid.number
 IsOfHeard past other = Unit {0}
 
-of_heard-more : (event : Event) (past : List Event) (told : SweepReply) → IsOfHeard past told → IsOfHeard (event ∷ past) told
+of_heard-more : (event : Event) (past : List Event) (reply : SweepReply) → IsOfHeard past reply → IsOfHeard (event ∷ past) reply
 of_heard-more event past (sweeps.Found at due) h = heard-more event past due.sid.number h
 of_heard-more event past (sweeps.NoneFound at) h = tt
 of_heard-more event past (sweeps.Ended closing) h = tt
@@ -97,7 +97,7 @@ sweep-heard shape world (sweep.Scan place) inner = (by (first_due (now_of world.
     event : Event
     event = sweep_of shape world (sweep.Scan place)
 
-    by : (found : Option Due) → first_due (now_of world.past) (steps_of place world.past) ≡ found → IsOfHeard (event ∷ world.past) (scan_told place found)
+    by : (found : Option Due) → first_due (now_of world.past) (steps_of place world.past) ≡ found → IsOfHeard (event ∷ world.past) (scan_reply place found)
     by None e = tt
     by (Some due) e = heard-more event world.past due.sid.number (scan-heard shape world place due inner e)
 sweep-heard shape world (sweep.End who) inner = (tt, tt)
@@ -130,11 +130,11 @@ pub ends_heard : (shape : Shape) (moves : List Move) → EndsHeard (world_of sha
 ends_heard shape moves =
     let past = (world_of shape moves).past in
     sweep_cases (EndsHeard past) shape.shards (sweeps_of past) (λ place. tt)
-    (λ at due before told. let heard = subst (AllByRecursion (IsOfHeard past)) told (all-heard shape moves) in heard.0)
-    (λ at due closing before told. tt)
+    (λ at due before heard_so. let heard = subst (AllByRecursion (IsOfHeard past)) heard_so (all-heard shape moves) in heard.0)
+    (λ at due closing before heard_so. tt)
 
 -- where no session of the number 0 was told anything, whom the sweeper wants to end has a number
-pub ends_numbered : (shape : Shape) (moves : List Move) → told_to 0 (world_of shape moves).past ≡ [] → IsNumbered (swept_next shape (world_of shape moves))
+pub ends_numbered : (shape : Shape) (moves : List Move) → heard_by 0 (world_of shape moves).past ≡ [] → IsNumbered (swept_next shape (world_of shape moves))
 ends_numbered shape moves nobody = by (swept_next shape (world_of shape moves)) (ends_heard shape moves)
   where
     past : List Event
@@ -145,5 +145,5 @@ ends_numbered shape moves nobody = by (swept_next shape (world_of shape moves)) 
 
     by : (request : SweepWanted) → EndsHeard past request → IsNumbered request
     by (sweep.Scan place) heard = tt
-    by (sweep.End who) heard = some who.number (λ zero. heard (ap (λ n. told_to n past) zero ∙ nobody))
+    by (sweep.End who) heard = some who.number (λ zero. heard (ap (λ n. heard_by n past) zero ∙ nobody))
     by (sweep.Drop key token) heard = tt

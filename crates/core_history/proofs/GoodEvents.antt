@@ -26,22 +26,22 @@ use Rattle.key_freshness.specs.Known.{IsAmong, IsLogged, IsOver, StandsAt, WasGr
 use Rattle.key_freshness.specs.Laws.{EndsItsOwn}
 use Rattle.session_client.specs.declared.plans.Shape.{Shape}
 use Rattle.session_client.specs.declared.replies.Reply.{Reply}
-use Rattle.session_client.specs.declared.replies.Reply.TheVariants as reply
-use Rattle.core_history.specs.Events.{Event, Stepped, Called, Ticked, Swept, steps_of, commits_told, log_of, ends_told, ended_of, known_of}
+use Rattle.session_client.specs.declared.replies.Reply.TheVariants as Reply
+use Rattle.core_history.specs.Events.{Event, Stepped, Called, Ticked, Swept, steps_of, commits_of_reply, log_of, ends_of_reply, ended_of, known_of}
 use Rattle.core_history.specs.Facts.{Found, found_at, answers_under}
 
 -- The answer is among these.
-abbrev pub IsTold : Answer → List Answer → Type 0
-IsTold answered [] = ⊥
-IsTold answered (first ∷ answers) = (first ≡ answered) ⊎ IsTold answered answers
+abbrev pub IsAmong : Answer → List Answer → Type 0
+IsAmong answered [] = ⊥
+IsAmong answered (first ∷ answers) = (first ≡ answered) ⊎ IsAmong answered answers
 
 -- A value that is stored is an answer that the session was told under the lease that is recorded.
-pub record SetsTold (past : List Event) (steps : List Step) (who : Sid) (on : QKey) (token : ℕ) (value : List ℕ) (stamp : ℕ) : Type 0 where
+pub record SetsAnswer (past : List Event) (steps : List Step) (who : Sid) (on : QKey) (token : ℕ) (value : List ℕ) (stamp : ℕ) : Type 0 where
   pub lease : ReadLease
   pub is_recorded : recorded on steps ≡ Some lease
   pub mine : lease.token ≡ token
   pub answered : Answer
-  pub told : IsTold answered (answers_under on token who.number past)
+  pub reply : IsAmong answered (answers_under on token who.number past)
   pub value_is : value ≡ answered.value
   pub stamp_is : stamp ≡ answered.stamp
 
@@ -91,7 +91,7 @@ pub record ShiftsOwn (past : List Event) (steps : List Step) (on : QKey) (sid : 
 -- quarantine ends is over, without a commit where the value is kept, and what is put or shifted is the session's own.
 -- What is raised stands alone.
 abbrev pub IsGoodStep : List Event → List Step → Sid → Step → Type 0
-IsGoodStep past steps who (step.Stored on token now value stamp evicted) = SetsTold past steps who on token value stamp
+IsGoodStep past steps who (step.Stored on token now value stamp evicted) = SetsAnswer past steps who on token value stamp
 IsGoodStep past steps who (step.Lease on sid floor now token deadline) = standing on steps ≡ []
 IsGoodStep past steps who (step.Released on sid token ended.Keep) = IsAmong sid.number (ended_of past)
 IsGoodStep past steps who (step.Released on sid token ended.Drop) = IsOver (known_of past) sid.number
@@ -110,12 +110,12 @@ IsGoodStep past steps who (step.Shared on sid token holder) = Unit {0}
 IsGoodStep past steps who (step.Renewed on sid token now deadline) = Unit {0}
 
 -- So is its event, on the shard of its key: nothing is committed and nobody ended.
-pub record IsGoodStepped (shape : Shape) (past : List Event) (place : ℕ) (who : Sid) (s : Step) (told : Reply) : Type 0 where
+pub record IsGoodStepped (shape : Shape) (past : List Event) (place : ℕ) (who : Sid) (s : Step) (reply : Reply) : Type 0 where
   pub home : place ≡ shard_of (key_of s) shape.shards
   pub good : IsGoodStep past (steps_of place past) who s
   pub own : EndsItsOwn (steps_of place past) s
-  pub no_commit : commits_told who told ≡ []
-  pub no_end : ends_told who told ≡ []
+  pub no_commit : commits_of_reply who reply ≡ []
+  pub no_end : ends_of_reply who reply ≡ []
 
 -- A commit is good: its session isn't over, and was granted each key that it touches.
 pub record IsGoodCommit (shape : Shape) (past : List Event) (who : Sid) (touched : QKey → Type 0) : Type 0 where
@@ -124,23 +124,23 @@ pub record IsGoodCommit (shape : Shape) (past : List Event) (who : Sid) (touched
 
 -- What the store told is good: an answer has the number of commits as its stamp, and who is told that it ended an open session hasn't committed.
 abbrev pub IsGoodCall : Shape → List Event → Sid → Reply → Type 0
-IsGoodCall shape past who (reply.Committed number txn grants) = IsGoodCommit shape past who (λ key. touches txn key ≡ true)
-IsGoodCall shape past who (reply.End true) = IsLogged (log_of past) who.number → ⊥
-IsGoodCall shape past who (reply.End false) = Unit {0}
-IsGoodCall shape past who (reply.Answer answered) = answered.stamp ≡ length (log_of past)
-IsGoodCall shape past who (reply.Got got) = Unit {0}
-IsGoodCall shape past who (reply.Staged value txn) = Unit {0}
-IsGoodCall shape past who (reply.NotStaged fault txn) = Unit {0}
-IsGoodCall shape past who (reply.Set told) = Unit {0}
-IsGoodCall shape past who (reply.Quar told) = Unit {0}
-IsGoodCall shape past who (reply.NotCommitted fault txn grants) = Unit {0}
-IsGoodCall shape past who (reply.Rel told) = Unit {0}
-IsGoodCall shape past who (reply.SarBack grant) = Unit {0}
-IsGoodCall shape past who (reply.Fault fault) = Unit {0}
-IsGoodCall shape past who (reply.Raise told) = Unit {0}
-IsGoodCall shape past who (reply.RaiseBack grant) = Unit {0}
-IsGoodCall shape past who (reply.Renew grant told) = Unit {0}
-IsGoodCall shape past who reply.Nothing = Unit {0}
+IsGoodCall shape past who (Reply.Committed number txn grants) = IsGoodCommit shape past who (λ key. touches txn key ≡ true)
+IsGoodCall shape past who (Reply.End true) = IsLogged (log_of past) who.number → ⊥
+IsGoodCall shape past who (Reply.End false) = Unit {0}
+IsGoodCall shape past who (Reply.Answer answered) = answered.stamp ≡ length (log_of past)
+IsGoodCall shape past who (Reply.Got got) = Unit {0}
+IsGoodCall shape past who (Reply.Staged value txn) = Unit {0}
+IsGoodCall shape past who (Reply.NotStaged fault txn) = Unit {0}
+IsGoodCall shape past who (Reply.Set answer) = Unit {0}
+IsGoodCall shape past who (Reply.Quar answer) = Unit {0}
+IsGoodCall shape past who (Reply.NotCommitted fault txn grants) = Unit {0}
+IsGoodCall shape past who (Reply.Rel answer) = Unit {0}
+IsGoodCall shape past who (Reply.SarBack grant) = Unit {0}
+IsGoodCall shape past who (Reply.Fault fault) = Unit {0}
+IsGoodCall shape past who (Reply.Raise answer) = Unit {0}
+IsGoodCall shape past who (Reply.RaiseBack grant) = Unit {0}
+IsGoodCall shape past who (Reply.Renew grant answer) = Unit {0}
+IsGoodCall shape past who Reply.Nothing = Unit {0}
 
 -- A step of the sweeper's on a shard drops a key and its quarantine, on the shard of the key, after the session of that quarantine.
 pub record IsGoodDrop (shape : Shape) (past : List Event) (place : ℕ) (on : QKey) (sid : Sid) (token : ℕ) : Type 0 where
@@ -161,10 +161,10 @@ IsGoodClosing false past who = Unit {0}
 -- So it is with whom the sweeper ended.
 abbrev pub IsGoodEnd : List Event → SweepWanted → SweepReply → Type 0
 IsGoodEnd past (sweep.End who) (sweeps.Ended closed) = IsGoodClosing closed.was past who.number
-IsGoodEnd past request told = Unit {0}
+IsGoodEnd past request reply = Unit {0}
 
 abbrev pub IsGoodEvent : Shape → List Event → Event → Type 0
-IsGoodEvent shape past (Stepped place who request s told) = IsGoodStepped shape past place who s told
-IsGoodEvent shape past (Called who request told) = IsGoodCall shape past who told
+IsGoodEvent shape past (Stepped place who request s reply) = IsGoodStepped shape past place who s reply
+IsGoodEvent shape past (Called who request reply) = IsGoodCall shape past who reply
 IsGoodEvent shape past (Ticked now) = Unit {0}
-IsGoodEvent shape past (Swept place request made told) = IsGoodSweep shape past place made × IsGoodEnd past request told
+IsGoodEvent shape past (Swept place request made reply) = IsGoodSweep shape past place made × IsGoodEnd past request reply

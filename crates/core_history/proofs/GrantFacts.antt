@@ -15,17 +15,17 @@ use Rattle.session_client.specs.Wants.{Given, given}
 use Rattle.sql_keeper.specs.Fresh.{quarantines}
 use Rattle.session_client.specs.declared.plans.Shape.{Shape}
 use Rattle.session_client.specs.declared.replies.Reply.{Reply}
-use Rattle.session_client.specs.declared.replies.Reply.TheVariants as reply
+use Rattle.session_client.specs.declared.replies.Reply.TheVariants as Reply
 use Rattle.session_client.specs.declared.replies.Wanted.{Wanted}
 use Rattle.session_client.specs.declared.replies.Wanted.TheVariants as wanted
-use Rattle.core_history.specs.Events.{steps_of, told_to}
+use Rattle.core_history.specs.Events.{steps_of, heard_by}
 use Rattle.core_history.specs.Machine.{World, terms_of, wanted_of, swept_next, is_open, out_of}
 use Rattle.core_history.specs.Facts.{Found, found_at, steps_on, AreApart, IsOrdered}
 use Rattle.core_history.specs.Freshness.{AreQuarantined}
 
 -- a lease that a reply gives has a token below this one
 abbrev pub IsDrawnBelow : ℕ → Reply → Type 0
-IsDrawnBelow next (reply.Got (got.Lease token)) = token < next
+IsDrawnBelow next (Reply.Got (got.Lease token)) = token < next
 IsDrawnBelow next other = Unit {0}
 
 -- the request is to release this grant, to raise it or to renew it
@@ -55,7 +55,7 @@ pub record GrantFacts (shape : Shape) (world : World) : Type 0 where
   -- the old value that a session keeps for a quarantine to refresh is what that quarantine found
   pub kept : (key : QKey) (quar : Quar) (found : Found) → quar_of key quar.token (steps_on shape world key) ≡ Some quar
       → found_at key quar.token world.past ≡ Some found
-      → (place : ℕ) (one : Given) → slice_get (given (told_to quar.sid.number world.past)) place ≡ Some one
+      → (place : ℕ) (one : Given) → slice_get (given (heard_by quar.sid.number world.past)) place ≡ Some one
       → one.permit.key ≡ key → one.permit.token ≡ quar.token → quar.mode ≡ Refresh → one.old ≡ found.entry
   -- whose quarantine the sweeper is to drop may commit no more
   pub swept : (key : QKey) (token : ℕ) (quar : Quar) → swept_next shape world ≡ sweep.Drop key token

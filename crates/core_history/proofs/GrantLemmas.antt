@@ -34,7 +34,7 @@ use Rattle.session_client.specs.Plans.{mode_on}
 use Rattle.session_client.specs.declared.replies.Wanted.TheVariants as wanted
 use Rattle.session_client.specs.Wants.{Given, given, granted, turned, released, Writing, writing_of, quarantine_as, write_wants}
 use Rattle.session_client.proofs.WantCases.{write_cases, read_cases, given-granted}
-use Rattle.core_history.specs.Events.{Event, steps_of, told_to, log_of, sweeps_of}
+use Rattle.core_history.specs.Events.{Event, steps_of, heard_by, log_of, sweeps_of}
 use Rattle.core_history.specs.Machine.{World, Move, world_of, HasPlans, terms_of, plan_at, wanted_by, swept_next, is_open, out_of}
 use Rattle.core_history.specs.Facts.{Found, found_at, steps_on, stands_for, AreApart, IsOrdered}
 use Rattle.core_history.specs.Freshness.{histories_of, RunsAreLawful}
@@ -89,7 +89,7 @@ session-cases shape past n heard P (Some (Renew mode txn)) h none some = some (R
 
 once-key : (shape : Shape) (world : World) → Inner shape world → (key : QKey) (who : Sid) → count_by (quarantines key who) (steps_on shape world key) ≤ 1
 once-key shape world inner key who =
-    let heard = told_to who.number world.past in
+    let heard = heard_by who.number world.past in
     let a = inner.counts key who in
     let b : count_by (covers who key) (ever heard) ≤ 1 =
     session-cases shape world.past who.number heard (count_by (covers who key) (ever heard) ≤ 1) (plan_at who.number world.plans) (inner.sessions who.number)
@@ -101,10 +101,10 @@ none-covered : (who : Sid) (key : QKey) (grants : List Permit) → grants ≡ []
 none-covered who key grants e h = false≢true (sym (ap (λ l. is_covered who l key) e) ∙ h)
 
 open-stands : (shape : Shape) (world : World) (who : Sid) (key : QKey) → Inner shape world
-    → is_covered who (ever (told_to who.number world.past)) key ≡ true
+    → is_covered who (ever (heard_by who.number world.past)) key ≡ true
     → is_open world who ≡ true → stands_for who (standing key (steps_on shape world key)) ≡ true
 open-stands shape world who key inner covered is_so =
-    let heard = told_to who.number world.past in
+    let heard = heard_by who.number world.past in
     session-cases shape world.past who.number heard (stands_for who (standing key (steps_on shape world key))
     ≡ true) (plan_at who.number world.plans) (inner.sessions who.number)
     (λ none nothing. absurd (none-covered who key (ever heard) nothing covered))
@@ -135,21 +135,21 @@ IsOutFor shape world grant request =
 
 -- the grant that a session is to release next is out
 given-out : (shape : Shape) (world : World) (n : ℕ) (grant : Permit) (writing : Writing) (one : Given)
-    → Writer shape world.past n (told_to n world.past) writing
-    → slice_get (given (told_to n world.past)) (released (told_to n world.past)) ≡ Some one → one.permit ≡ grant
+    → Writer shape world.past n (heard_by n world.past) writing
+    → slice_get (given (heard_by n world.past)) (released (heard_by n world.past)) ≡ Some one → one.permit ≡ grant
     → list_any (same_permit grant) (out_of shape (shard_of grant.key shape.shards) world.past) ≡ true
 given-out shape world n grant writing one w at same =
-    let heard = told_to n world.past in
+    let heard = heard_by n world.past in
     let O : Permit → Type 0 = λ g. list_any (same_permit g) (out_of shape (shard_of g.key shape.shards) world.past) ≡ true in
     subst O same (w.stood (released heard) one.permit (given-granted heard (released heard) one at) (omega arith)).out
 
 -- the grant that a session is to raise or renew next is out
 turn-out : (shape : Shape) (world : World) (n : ℕ) (grant : Permit) (writing : Writing) (one : Permit)
-    → Writer shape world.past n (told_to n world.past) writing
-    → slice_get (granted (told_to n world.past)) (turned (told_to n world.past)) ≡ Some one → is_going (told_to n world.past) ≡ true → one ≡ grant
+    → Writer shape world.past n (heard_by n world.past) writing
+    → slice_get (granted (heard_by n world.past)) (turned (heard_by n world.past)) ≡ Some one → is_going (heard_by n world.past) ≡ true → one ≡ grant
     → list_any (same_permit grant) (out_of shape (shard_of grant.key shape.shards) world.past) ≡ true
 turn-out shape world n grant writing one w at going same =
-    let heard = told_to n world.past in
+    let heard = heard_by n world.past in
     let none = (w.going going).1 in
     let O : Permit → Type 0 = λ g. list_any (same_permit g) (out_of shape (shard_of g.key shape.shards) world.past) ≡ true in
     subst O same (w.stood (turned heard) one at (omega (arith, none))).out
@@ -160,26 +160,26 @@ asks-none Invalidate key txn grant h = h
 asks-none Refresh key txn grant h = h
 asks-none Delta key txn grant h = h
 
-writer-out : (shape : Shape) (world : World) (n : ℕ) (grant : Permit) (writing : Writing) → Writer shape world.past n (told_to n world.past) writing
-    → IsOutFor shape world grant (write_wants writing false (told_to n world.past))
+writer-out : (shape : Shape) (world : World) (n : ℕ) (grant : Permit) (writing : Writing) → Writer shape world.past n (heard_by n world.past) writing
+    → IsOutFor shape world grant (write_wants writing false (heard_by n world.past))
 writer-out shape world n grant writing w =
-    write_cases (λ request. write_wants writing false (told_to n world.past) ≡ request → IsOutFor shape world grant request) writing false
-    (told_to n world.past)
+    write_cases (λ request. write_wants writing false (heard_by n world.past) ≡ request → IsOutFor shape world grant request) writing false
+    (heard_by n world.past)
     (λ key at asks e h. absurd (asks-none (mode_on writing.mode key) key writing.txn grant h))
     (λ going e h. absurd h) (λ key looks asks none e h. absurd h) (λ key looks going e h. absurd h) (λ going e h. absurd h)
-    (λ one at going e same. turn-out shape world n grant writing one w at (going-on writing (told_to n world.past) (wanted.Raise one) e (λ no. cc) going) same)
-    (λ one at going e same. turn-out shape world n grant writing one w at (going-on writing (told_to n world.past) (wanted.Renew one) e (λ no. cc) going) same)
+    (λ one at going e same. turn-out shape world n grant writing one w at (going-on writing (heard_by n world.past) (wanted.Raise one) e (λ no. cc) going) same)
+    (λ one at going e same. turn-out shape world n grant writing one w at (going-on writing (heard_by n world.past) (wanted.Renew one) e (λ no. cc) going) same)
     (λ one at ending none e same. given-out shape world n grant writing one w at same)
     (λ one at ending e same. given-out shape world n grant writing one w at same)
-    (λ one number at ending told fits e same. given-out shape world n grant writing one w at same)
-    (λ one number at ending told fits e same. given-out shape world n grant writing one w at same)
+    (λ one number at ending numbered fits e same. given-out shape world n grant writing one w at same)
+    (λ one number at ending numbered fits e same. given-out shape world n grant writing one w at same)
     (λ e h. absurd h) refl
 
-session-out : (shape : Shape) (world : World) (n : ℕ) (grant : Permit) (plan : Option Plan) → IsSession shape world.past n (told_to n world.past) plan
-    → IsOutFor shape world grant (wanted_by plan (told_to n world.past))
+session-out : (shape : Shape) (world : World) (n : ℕ) (grant : Permit) (plan : Option Plan) → IsSession shape world.past n (heard_by n world.past) plan
+    → IsOutFor shape world grant (wanted_by plan (heard_by n world.past))
 session-out shape world n grant None h = λ e. absurd e
 session-out shape world n grant (Some (Read key floor)) h =
-    read_cases (IsOutFor shape world grant) key floor (told_to n world.past) (λ e. absurd e) (λ e. absurd e) (λ token answer rest e r. absurd r) (λ e. absurd e)
+    read_cases (IsOutFor shape world grant) key floor (heard_by n world.past) (λ e. absurd e) (λ e. absurd e) (λ token answer rest e r. absurd r) (λ e. absurd e)
 session-out shape world n grant (Some (Write mode txn)) h = writer-out shape world n grant (writing_of (Write mode txn)) h
 session-out shape world n grant (Some (Look mode key txn)) h = writer-out shape world n grant (writing_of (Look mode key txn)) h
 session-out shape world n grant (Some (Quit mode txn)) h = writer-out shape world n grant (writing_of (Quit mode txn)) h
@@ -196,11 +196,11 @@ some_found e = cc
 
 kept-found : (shape : Shape) (world : World) → Inner shape world
     → (key : QKey) (quar : Quar) (found : Found) → quar_of key quar.token (steps_on shape world key) ≡ Some quar
-    → found_at key quar.token world.past ≡ Some found → (place : ℕ) (one : Given) → slice_get (given (told_to quar.sid.number world.past)) place ≡ Some one
+    → found_at key quar.token world.past ≡ Some found → (place : ℕ) (one : Given) → slice_get (given (heard_by quar.sid.number world.past)) place ≡ Some one
     → one.permit.key ≡ key → one.permit.token ≡ quar.token → quar.mode ≡ Refresh → one.old ≡ found.entry
 kept-found shape world inner key quar found stands at_grant place one at on_key of_token refresh =
     let n = quar.sid.number in
-    let heard = told_to n world.past in
+    let heard = heard_by n world.past in
     let here = given-granted heard place one at in
     session-cases shape world.past n heard (one.old ≡ found.entry) (plan_at n world.plans) (inner.sessions n)
     (λ none nothing. absurd (no_grant place one.permit (sym (ap (λ l. slice_get l place) none) ∙ here)))
@@ -221,9 +221,9 @@ swept-shut : (shape : Shape) (world : World) → Inner shape world → (key : QK
     → quar_of key token (steps_on shape world key) ≡ Some quar → is_open world quar.sid ≡ false
 swept-shut shape world inner key token quar wanted stands =
     sweep_cases (λ request. request ≡ sweep.Drop key token → is_open world quar.sid ≡ false) shape.shards (sweeps_of world.past)
-    (λ place e. cc) (λ at due before told e. cc)
-    (λ at due closing before told e.
-    let is = subst (IsSweeping shape world.plans world.past) told inner.sweeping in
+    (λ place e. cc) (λ at due before heard_so e. cc)
+    (λ at due closing before heard_so e.
+    let is = subst (IsSweeping shape world.plans world.past) heard_so inner.sweeping in
     let same = drop_same e in
     let Q : QKey → ℕ → Type 0 = λ k t. quar_of k t (steps_on shape world k) ≡ Some quar in
     let its : Q due.key due.token = subst (λ k. Q k due.token) (sym same.0) (subst (Q key) (sym same.1) stands) in

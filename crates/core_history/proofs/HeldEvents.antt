@@ -36,13 +36,13 @@ use Rattle.expiry_sweeper.specs.declared.replies.SweepWanted.{SweepWanted}
 use Rattle.expiry_sweeper.specs.declared.replies.SweepWanted.TheVariants as sweep
 use Rattle.session_client.specs.declared.plans.Shape.{Shape}
 use Rattle.session_client.specs.declared.replies.Reply.{Reply}
-use Rattle.session_client.specs.declared.replies.Reply.TheVariants as reply
+use Rattle.session_client.specs.declared.replies.Reply.TheVariants as Reply
 use Rattle.session_client.specs.declared.replies.Wanted.{Wanted}
 use Rattle.session_client.specs.declared.replies.Wanted.TheVariants as wanted
-use Rattle.core_history.specs.Events.{Event, Stepped, Called, Ticked, Swept, steps_of, commits_told, log_of, ends_told, ends_swept, ended_of, known_of}
+use Rattle.core_history.specs.Events.{Event, Stepped, Called, Ticked, Swept, steps_of, commits_of_reply, log_of, ends_of_reply, ends_swept, ended_of, known_of}
 use Rattle.core_history.specs.Facts.{leases, leased_at, answers_in, answers_under, Found, grants_as, found_at}
 use Rattle.core_history.proofs.ExclusiveLemmas.{AreAlone, HasNoReader, grants-on, writes_held, apart_step, alone_step, alone-more, alone-after}
-use Rattle.core_history.proofs.GoodEvents.{IsTold, SetsTold, IsGoodStep, IsGoodSweep, IsGoodEnd, IsGoodEvent, IsGoodClosing}
+use Rattle.core_history.proofs.GoodEvents.{IsAmong, SetsAnswer, IsGoodStep, IsGoodSweep, IsGoodEnd, IsGoodEvent, IsGoodClosing}
 use Rattle.core_history.proofs.ListLemmas.{choose, every-append, every-weaker, not_both, and_elim}
 
 -- the steps of a key's shard
@@ -184,19 +184,19 @@ not_so true h = absurd (h refl)
 not_so false h = refl
 
 -- what is stored was told under the lease that is recorded: the moment of that lease, and a stamp between then and now
-between_told : (least most : ℕ) (answered : Answer) (answers : List Answer)
-    → AllByRecursion (IsBetween least most) answers → IsTold answered answers → IsBetween least most answered
-between_told least most answered (first ∷ answers) h (inl e) = subst (IsBetween least most) e h.0
-between_told least most answered (first ∷ answers) h (inr t) = between_told least most answered answers h.1 t
-between_told least most answered [] h t = absurd t
+between_answers : (least most : ℕ) (answered : Answer) (answers : List Answer)
+    → AllByRecursion (IsBetween least most) answers → IsAmong answered answers → IsBetween least most answered
+between_answers least most answered (first ∷ answers) h (inl e) = subst (IsBetween least most) e h.0
+between_answers least most answered (first ∷ answers) h (inr t) = between_answers least most answered answers h.1 t
+between_answers least most answered [] h t = absurd t
 
 set_held : (shape : Shape) (past : List Event) (who : Sid) (on : QKey) (token : ℕ) (value : List ℕ) (stamp : ℕ) → Holds shape past (known_of past)
-    → SetsTold past (steps_at shape past on) who on token value stamp → IsHeld on (Wrote stamp ∷ marks_of on (steps_at shape past on)) (known_of past) stamp
+    → SetsAnswer past (steps_at shape past on) who on token value stamp → IsHeld on (Wrote stamp ∷ marks_of on (steps_at shape past on)) (known_of past) stamp
 set_held shape past who on token value stamp holds sets =
     let lease = holds.leased on sets.lease sets.is_recorded in
     let L : ℕ → Type 0 = λ t. leased_at on t past ≡ Some (length lease.then_known.log) in
     let between = (holds.asked on token who.number (length lease.then_known.log) (subst L sets.mine lease.leased)).1 in
-    let stamped = between_told (length lease.then_known.log) (length (log_of past)) sets.answered _ between sets.told in
+    let stamped = between_answers (length lease.then_known.log) (length (log_of past)) sets.answered _ between sets.is_answer in
     let is = sets.stamp_is in
     record {
       within = let h = stamped.1 in omega (arith, h, is);
@@ -242,13 +242,13 @@ lease-more key token past after marks later known new same grants grows was = re
   more = more-trans was.more grows;
 }
 
-module _ (shape : Shape) (past : List Event) (who : Sid) (request : Wanted) (s : Step) (told : Reply) (holds : Holds shape past (known_of past))
+module _ (shape : Shape) (past : List Event) (who : Sid) (request : Wanted) (s : Step) (reply : Reply) (holds : Holds shape past (known_of past))
     (good : IsGoodStep past (steps_at shape past (key_of s)) who s) (own : EndsItsOwn (steps_at shape past (key_of s)) s) where
   abbrev place : ℕ
   place = shard_of (key_of s) shape.shards
 
   abbrev event : Event
-  event = Stepped place who request s told
+  event = Stepped place who request s reply
 
   -- at another shard, and at this one
   at_shard : (P : QKey → List Step → Type 0) (key : QKey)
@@ -448,9 +448,9 @@ same_holds shape past after known same holds = record {
     at key = sym (same.steps (shard_of key shape.shards))
 
 -- a call that tells no answer
-pub same-called : (past : List Event) (who : Sid) (request : Wanted) (told : Reply) → ((key : QKey) (number : ℕ) → answers_in key number who told ≡ [])
-    → IsSamePast past (Called who request told ∷ past)
-same-called past who request told none = record {
+pub same-called : (past : List Event) (who : Sid) (request : Wanted) (reply : Reply) → ((key : QKey) (number : ℕ) → answers_in key number who reply ≡ [])
+    → IsSamePast past (Called who request reply ∷ past)
+same-called past who request reply none = record {
   steps = λ place. refl;
   leased = λ key token. refl;
   under = λ key token number. ap (λ l. l ++ answers_under key token number past) (none key number);
@@ -461,8 +461,8 @@ pub same-ticked : (past : List Event) (now : ℕ) → IsSamePast past (Ticked no
 same-ticked past now = record { steps = λ place. refl; leased = λ key token. refl; under = λ key token number. refl; found = λ key token. refl }
 
 -- a sweep without a step
-pub same-swept : (past : List Event) (shard : ℕ) (request : SweepWanted) (told : SweepReply) → IsSamePast past (Swept shard request None told ∷ past)
-same-swept past shard request told = record {
+pub same-swept : (past : List Event) (shard : ℕ) (request : SweepWanted) (reply : SweepReply) → IsSamePast past (Swept shard request None reply ∷ past)
+same-swept past shard request reply = record {
   steps = λ place. choose (λ l. l ++ steps_of place past ≡ steps_of place past) (shard == place) [] [] (λ e. refl) (λ e. refl);
   leased = λ key token. refl;
   under = λ key token number. refl;
@@ -470,19 +470,19 @@ same-swept past shard request told = record {
 }
 
 -- a sweep that drops is as a session's release
-pub same-dropped : (past : List Event) (shard : ℕ) (on : QKey) (sid : Sid) (token : ℕ) (request : SweepWanted) (told : SweepReply)
-    → IsSamePast (Stepped shard sid wanted.Nothing (step.Released on sid token ended.Drop) reply.Nothing
-    ∷ past) (Swept shard request (Some (step.Released on sid token ended.Drop)) told ∷ past)
-same-dropped past shard on sid token request told =
+pub same-dropped : (past : List Event) (shard : ℕ) (on : QKey) (sid : Sid) (token : ℕ) (request : SweepWanted) (reply : SweepReply)
+    → IsSamePast (Stepped shard sid wanted.Nothing (step.Released on sid token ended.Drop) Reply.Nothing
+    ∷ past) (Swept shard request (Some (step.Released on sid token ended.Drop)) reply ∷ past)
+same-dropped past shard on sid token request reply =
     record { steps = λ place. refl; leased = λ key t. refl; under = λ key t number. refl; found = λ key t. refl }
 
 -- a call that tells no answer, by which more may be known
-called_holds : (shape : Shape) (past : List Event) (who : Sid) (request : Wanted) (told : Reply) (known : Known) → IsMore (known_of past) known
-    → ((key : QKey) → IsRuled key (marks_of key (steps_at shape past key)) known) → ((key : QKey) (number : ℕ) → answers_in key number who told ≡ [])
-    → Holds shape past (known_of past) → Holds shape (Called who request told ∷ past) known
-called_holds shape past who request told known grows ruled none holds =
-    same_holds shape past (Called who request told ∷ past) known
-    (same-called past who request told none) (grow_holds shape past (known_of past) known grows ruled holds)
+called_holds : (shape : Shape) (past : List Event) (who : Sid) (request : Wanted) (reply : Reply) (known : Known) → IsMore (known_of past) known
+    → ((key : QKey) → IsRuled key (marks_of key (steps_at shape past key)) known) → ((key : QKey) (number : ℕ) → answers_in key number who reply ≡ [])
+    → Holds shape past (known_of past) → Holds shape (Called who request reply ∷ past) known
+called_holds shape past who request reply known grows ruled none holds =
+    same_holds shape past (Called who request reply ∷ past) known
+    (same-called past who request reply none) (grow_holds shape past (known_of past) known grows ruled holds)
 
 -- the answer of a reply, if it is to the key
 one_between : (least most : ℕ) (answered : Answer) (b : Bool)
@@ -492,24 +492,24 @@ one_between least most answered false h = tt
 
 -- a call that tells an answer
 answer_holds : (shape : Shape) (past : List Event) (who : Sid) (request : Wanted) (answered : Answer) (known : Known) → answered.stamp ≡ length known.log
-    → Holds shape past known → Holds shape (Called who request (reply.Answer answered) ∷ past) known
+    → Holds shape past known → Holds shape (Called who request (Reply.Answer answered) ∷ past) known
 answer_holds shape past who request answered known stamp holds = record {
   ruled = holds.ruled;
   tied = holds.tied;
   held = holds.held;
   leased = λ key lease is.
-      lease-more key lease.token past (Called who request (reply.Answer answered) ∷ past) (marks_of key (steps_at shape past key)) []
+      lease-more key lease.token past (Called who request (Reply.Answer answered) ∷ past) (marks_of key (steps_at shape past key)) []
       known known refl (λ by t h. h) (more-refl known) (holds.leased key lease is);
   asked = λ key token number least is.
       let was = holds.asked key token number least is in
       let le = was.0 in (
         le,
-        every-append (IsBetween least (length known.log)) (answers_in key number who (reply.Answer answered)) (answers_under key token number past)
+        every-append (IsBetween least (length known.log)) (answers_in key number who (Reply.Answer answered)) (answers_under key token number past)
             (one_between least (length known.log) answered ((who.number == number) && same_key key answered.key)
             (omega (arith, stamp, le), omega (arith, stamp))) was.1,
       );
   apart = holds.apart;
-  alone = λ key. alone-after key (standing key (steps_at shape past key)) past (Called who request (reply.Answer answered)
+  alone = λ key. alone-after key (standing key (steps_at shape past key)) past (Called who request (Reply.Answer answered)
       ∷ past) (marks_of key (steps_at shape past key)) known (entry key (steps_at shape past key)) (λ token. refl) (holds.alone key);
   grants = holds.grants;
   homes = holds.homes;
@@ -532,9 +532,9 @@ ended_holds shape past after who ongoing holds =
     (more-end (known_of past) who) (λ key. ends_keep key (marks_of key (steps_at shape after key)) (known_of past) who ongoing (holds.ruled key)) holds)
 
 -- what the sweeper ends
-swept_end : (shape : Shape) (past after : List Event) (request : SweepWanted) (told : SweepReply)
-    → IsGoodEnd past request told → Holds shape after (known_of past)
-    → Holds shape after (record { log = log_of past ++ []; ended = ends_swept request told ++ ended_of past })
+swept_end : (shape : Shape) (past after : List Event) (request : SweepWanted) (reply : SweepReply)
+    → IsGoodEnd past request reply → Holds shape after (known_of past)
+    → Holds shape after (record { log = log_of past ++ []; ended = ends_swept request reply ++ ended_of past })
 swept_end shape past after (sweep.End who) (sweeps.Ended closing) good holds =
     by closing.was good
   where
@@ -542,51 +542,51 @@ swept_end shape past after (sweep.End who) (sweeps.Ended closing) good holds =
         → Holds shape after (record { log = log_of past ++ []; ended = cond b (who.number ∷ []) [] ++ ended_of past })
     by true good = ended_holds shape past after who.number good holds
     by false good = subst (Holds shape after) (known_same past [] [] refl refl) holds
-swept_end shape past after request told good holds = subst (Holds shape after) (known_same past [] [] refl refl) holds
+swept_end shape past after request reply good holds = subst (Holds shape after) (known_same past [] [] refl refl) holds
 
 -- what the sweeper drops
-swept_step : (shape : Shape) (past : List Event) (shard : ℕ) (request : SweepWanted) (made : Option Step) (told : SweepReply)
+swept_step : (shape : Shape) (past : List Event) (shard : ℕ) (request : SweepWanted) (made : Option Step) (reply : SweepReply)
     → IsGoodSweep shape past shard made
-    → Holds shape past (known_of past) → Holds shape (Swept shard request made told ∷ past) (known_of past)
-swept_step shape past shard request None told good holds =
-    same_holds shape past (Swept shard request None told ∷ past) (known_of past) (same-swept past shard request told) holds
-swept_step shape past shard request (Some (step.Released on sid token ended.Drop)) told good holds =
+    → Holds shape past (known_of past) → Holds shape (Swept shard request made reply ∷ past) (known_of past)
+swept_step shape past shard request None reply good holds =
+    same_holds shape past (Swept shard request None reply ∷ past) (known_of past) (same-swept past shard request reply) holds
+swept_step shape past shard request (Some (step.Released on sid token ended.Drop)) reply good holds =
     let s = step.Released on sid token ended.Drop in
-    same_holds shape (Stepped shard sid wanted.Nothing s reply.Nothing
-    ∷ past) (Swept shard request (Some s) told ∷ past) (known_of past) (same-dropped past shard on sid token request told)
-    (subst (λ (p : ℕ). Holds shape (Stepped p sid wanted.Nothing s reply.Nothing ∷ past) (known_of past)) (sym good.home)
-    (stepped_holds shape past sid wanted.Nothing s reply.Nothing holds good.over (subst (λ (p : ℕ). EndsItsOwn (steps_of p past) s) good.home good.own)))
-swept_step shape past shard request (Some other) told good holds = absurd good
+    same_holds shape (Stepped shard sid wanted.Nothing s Reply.Nothing
+    ∷ past) (Swept shard request (Some s) reply ∷ past) (known_of past) (same-dropped past shard on sid token request reply)
+    (subst (λ (p : ℕ). Holds shape (Stepped p sid wanted.Nothing s Reply.Nothing ∷ past) (known_of past)) (sym good.home)
+    (stepped_holds shape past sid wanted.Nothing s Reply.Nothing holds good.over (subst (λ (p : ℕ). EndsItsOwn (steps_of p past) s) good.home good.own)))
+swept_step shape past shard request (Some other) reply good holds = absurd good
 
 -- each good event keeps what holds
 pub good_holds : (shape : Shape) (past : List Event) (event : Event)
     → IsGoodEvent shape past event → Holds shape past (known_of past) → Holds shape (event ∷ past) (known_of (event ∷ past))
-good_holds shape past (Stepped place who request s told) good holds =
-    subst (Holds shape (Stepped place who request s told ∷ past)) (known_same past (commits_told who told) (ends_told who told) good.no_commit good.no_end)
-    (subst (λ (p : ℕ). Holds shape (Stepped p who request s told ∷ past) (known_of past)) (sym good.home)
-    (stepped_holds shape past who request s told holds
+good_holds shape past (Stepped place who request s reply) good holds =
+    subst (Holds shape (Stepped place who request s reply ∷ past)) (known_same past (commits_of_reply who reply) (ends_of_reply who reply) good.no_commit good.no_end)
+    (subst (λ (p : ℕ). Holds shape (Stepped p who request s reply ∷ past) (known_of past)) (sym good.home)
+    (stepped_holds shape past who request s reply holds
     (subst (λ (p : ℕ). IsGoodStep past (steps_of p past) who s) good.home good.good)
     (subst (λ (p : ℕ). EndsItsOwn (steps_of p past) s) good.home good.own)))
-good_holds shape past (Called who request (reply.Committed number txn grants)) good holds =
+good_holds shape past (Called who request (Reply.Committed number txn grants)) good holds =
     let commit : Commit = record { sid = who; txn = txn } in
-    called_holds shape past who request (reply.Committed number txn grants) (with_commit (known_of past) commit) (more-commit (known_of past) commit)
+    called_holds shape past who request (Reply.Committed number txn grants) (with_commit (known_of past) commit) (more-commit (known_of past) commit)
     (λ key. commits_keep key (marks_of key (steps_at shape past key)) (known_of past) commit good.opened (good.granted key) (holds.ruled key))
     (λ key number. refl) holds
-good_holds shape past (Called who request (reply.End true)) good holds =
-    let after = Called who request (reply.End true) ∷ past in
+good_holds shape past (Called who request (Reply.End true)) good holds =
+    let after = Called who request (Reply.End true) ∷ past in
     ended_holds shape past after who.number good
-    (same_holds shape past after (known_of past) (same-called past who request (reply.End true) (λ key number. refl)) holds)
-good_holds shape past (Called who request (reply.Answer answered)) good holds =
-    subst (Holds shape (Called who request (reply.Answer answered) ∷ past))
+    (same_holds shape past after (known_of past) (same-called past who request (Reply.End true) (λ key number. refl)) holds)
+good_holds shape past (Called who request (Reply.Answer answered)) good holds =
+    subst (Holds shape (Called who request (Reply.Answer answered) ∷ past))
     (known_same past [] [] refl refl) (answer_holds shape past who request answered (known_of past) good holds)
-good_holds shape past (Called who request told) good holds =
-    subst (Holds shape (Called who request told ∷ past)) (known_same past [] [] refl refl)
-    (same_holds shape past (Called who request told ∷ past) (known_of past) (same-called past who request told (λ key number. refl)) holds)
+good_holds shape past (Called who request reply) good holds =
+    subst (Holds shape (Called who request reply ∷ past)) (known_same past [] [] refl refl)
+    (same_holds shape past (Called who request reply ∷ past) (known_of past) (same-called past who request reply (λ key number. refl)) holds)
 good_holds shape past (Ticked now) good holds =
     subst (Holds shape (Ticked now ∷ past)) (known_same past [] [] refl refl)
     (same_holds shape past (Ticked now ∷ past) (known_of past) (same-ticked past now) holds)
-good_holds shape past (Swept place request made told) good holds =
-    swept_end shape past (Swept place request made told ∷ past) request told good.1 (swept_step shape past place request made told good.0 holds)
+good_holds shape past (Swept place request made reply) good holds =
+    swept_end shape past (Swept place request made reply ∷ past) request reply good.1 (swept_step shape past place request made reply good.0 holds)
 
 -- at the start nothing is marked or known
 pub start_holds : (shape : Shape) → Holds shape [] (known_of [])

@@ -10,10 +10,10 @@ joined word [] = sym (append-nil word)
 joined word (next ∷ words) = ap (λ (l : List ℕ). word ++ 32 ∷ l) (joined next words)
 
 -- the words of a request, and then those of its reply, put behind a word, and the line's end
-pub line_pushed : (word : List ℕ) (asked told : List (List ℕ)) (with_asked with_told text : List ℕ)
-    → with_asked ≡ word ++ spaced asked → with_told ≡ with_asked ++ spaced told →
-    text ≡ with_told ++ 10 ∷ [] → text ≡ line (word ∷ asked ++ told)
-line_pushed word asked told with_asked with_told text first then last =
+pub line_pushed : (word : List ℕ) (asked words : List (List ℕ)) (with_asked with_told text : List ℕ)
+    → with_asked ≡ word ++ spaced asked → with_told ≡ with_asked ++ spaced words →
+    text ≡ with_told ++ 10 ∷ [] → text ≡ line (word ∷ asked ++ words)
+line_pushed word asked words with_asked with_told text first then last =
     last ∙ ap (λ (l : List ℕ). l ++ 10 ∷ [])
-    (then ∙ ap (λ (l : List ℕ). l ++ spaced told) first ∙ append_assoc word (spaced asked) (spaced told)
-    ∙ ap (λ (l : List ℕ). word ++ l) (sym (flat_map-append (λ (w : List ℕ). 32 ∷ w) asked told)) ∙ sym (joined word (asked ++ told)))
+    (then ∙ ap (λ (l : List ℕ). l ++ spaced words) first ∙ append_assoc word (spaced asked) (spaced words)
+    ∙ ap (λ (l : List ℕ). word ++ l) (sym (flat_map-append (λ (w : List ℕ). 32 ∷ w) asked words)) ∙ sym (joined word (asked ++ words)))

@@ -9,7 +9,7 @@ use Rattle.key_shard.specs.Shards.{ShardView}
 use Rattle.sql_keeper.specs.Stores.{StoreView}
 use Rattle.session_client.specs.declared.plans.Shape.{Shape}
 use Rattle.session_client.specs.declared.replies.Reply.{Reply}
-use Rattle.session_client.specs.declared.replies.Reply.TheVariants as reply
+use Rattle.session_client.specs.declared.replies.Reply.TheVariants as Reply
 use Rattle.session_client.specs.declared.replies.Wanted.{Wanted}
 use Rattle.session_client.specs.declared.replies.Wanted.TheVariants as wanted
 use Rattle.executor.specs.Requests.{key_of}
@@ -58,7 +58,7 @@ same_shards shards shape world who other said at has = absurd cc
 pub makes_step : (origin : Origin) (world : World) (who : Sid) (request : Wanted) (key : QKey) (shards : List ShardView) (store : StoreView)
     (result : Result Reply Memory) → key_of request ≡ Some key → IsStoreAfter store origin world →
     MakesStep origin.shape world who request shards result → Makes origin world who request shards store result
-makes_step origin world who request key shards store (Ok told) on stands made =
+makes_step origin world who request key shards store (Ok reply) on stands made =
     let event = event_of origin.shape world who request Failed in
     let quiet = quiet_request origin.shape world who request key on in (
       Failed,
@@ -70,6 +70,6 @@ makes_step origin world who request key shards store (Err memory) on stands made
 pub makes_call : (origin : Origin) (world : World) (who : Sid) (request : Wanted) (shards : List ShardView) (store : StoreView) (result : Result Reply Memory)
     → key_of request ≡ None → HasShards shards origin.shape world.past →
     MakesCall origin world who request store result → Makes origin world who request shards store result
-makes_call origin world who request shards store (Ok told) at has made =
+makes_call origin world who request shards store (Ok reply) at has made =
     (made.0, made.1, (same_shards shards origin.shape world who request made.0 at has, made.2))
 makes_call origin world who request shards store (Err memory) at has made = (has, made)

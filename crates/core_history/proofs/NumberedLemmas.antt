@@ -48,16 +48,16 @@ good-numbered past steps who other good = tt
 -- so is each step of a good event
 event-numbered : (shape : Shape) (past : List Event) (event : Event) → IsGoodEvent shape past event → (place : ℕ)
     → AllByRecursion (IsNumbered (log_of past)) (steps_in place event)
-event-numbered shape past (Stepped home who request s told) good place =
+event-numbered shape past (Stepped home who request s reply) good place =
     choose (AllByRecursion (IsNumbered (log_of past))) (home == place)
     (s ∷ []) [] (λ _. (good-numbered past (steps_of home past) who s good.good, tt)) (λ _. tt)
-event-numbered shape past (Called who request told) good place = tt
+event-numbered shape past (Called who request reply) good place = tt
 event-numbered shape past (Ticked now) good place = tt
-event-numbered shape past (Swept home request None told) good place =
+event-numbered shape past (Swept home request None reply) good place =
     choose (AllByRecursion (IsNumbered (log_of past))) (home == place) [] [] (λ _. tt) (λ _. tt)
-event-numbered shape past (Swept home request (Some (step.Released on sid token ended.Drop)) told) good place =
+event-numbered shape past (Swept home request (Some (step.Released on sid token ended.Drop)) reply) good place =
     choose (AllByRecursion (IsNumbered (log_of past))) (home == place) (step.Released on sid token ended.Drop ∷ []) [] (λ _. (tt, tt)) (λ _. tt)
-event-numbered shape past (Swept home request (Some other) told) good place = absurd good.0
+event-numbered shape past (Swept home request (Some other) reply) good place = absurd good.0
 
 -- so is each step of each run
 pub runs_numbered : (shape : Shape) (moves : List Move) (place : ℕ)

@@ -14,7 +14,7 @@ use Rattle.sql_keeper.specs.Sessions.{may_commit as may, is_open as may_commit, 
 use Rattle.expiry_sweeper.specs.declared.replies.SweepReply.TheVariants as sweeps
 use Rattle.expiry_sweeper.specs.declared.replies.SweepWanted.TheVariants as sweep
 use Rattle.session_client.specs.Grants.{GrantsView}
-use Rattle.session_client.specs.declared.replies.Reply.TheVariants as reply
+use Rattle.session_client.specs.declared.replies.Reply.TheVariants as Reply
 use Rattle.session_client.specs.declared.replies.Wanted.TheVariants as wanted
 use Rattle.core_history.specs.Cores.{HasPhases}
 use Rattle.core_history.specs.Events.{Event, Called, Swept, commits_in, ends_in, log_of, ended_of, was_ended, has_committed}
@@ -104,7 +104,7 @@ sid_is a b e = ap (λ (n : ℕ). record { number = n }) e
 -- the sessions after a commit
 pub phases_committed : (phases : List Phase) (world : World) (who : Sid) (txn : List Change) (grants : GrantsView) (number : ℕ) → HasPhases phases world
     → 1 ≤ who.number → may_commit who phases ≡ true →
-    HasPhases (with_phase who Committed phases) (after world (Called who (wanted.Commit txn grants) (reply.Committed number txn grants)))
+    HasPhases (with_phase who Committed phases) (after world (Called who (wanted.Commit txn grants) (Reply.Committed number txn grants)))
 phases_committed phases world who txn grants number has some is_so =
     record {
       count = length_phase who Committed phases ∙ has.count;
@@ -112,7 +112,7 @@ phases_committed phases world who txn grants number has some is_so =
     }
   where
     event : Event
-    event = Called who (wanted.Commit txn grants) (reply.Committed number txn grants)
+    event = Called who (wanted.Commit txn grants) (Reply.Committed number txn grants)
 
     commits : (other : Sid)
         → has_committed other.number (event ∷ world.past) ≡ (has_committed other.number world.past || ((who.number == other.number) || false))
@@ -189,9 +189,9 @@ phases_closed phases world who event has some no_commit one_end no_end = by (is_
 
 -- the sessions after one was ended by its own turn
 pub phases_ended : (phases : List Phase) (world : World) (who : Sid) → HasPhases phases world → 1 ≤ who.number →
-    HasPhases (ended who phases) (after world (Called who wanted.End (reply.End (is_open world who))))
+    HasPhases (ended who phases) (after world (Called who wanted.End (Reply.End (is_open world who))))
 phases_ended phases world who has some =
-    phases_closed phases world who (λ was. Called who wanted.End (reply.End was)) has some (λ was. refl) refl refl
+    phases_closed phases world who (λ was. Called who wanted.End (Reply.End was)) has some (λ was. refl) refl refl
 
 -- the sessions after the sweeper ended one
 pub phases_swept : (phases : List Phase) (world : World) (who : Sid) → HasPhases phases world → 1 ≤ who.number →

@@ -13,10 +13,10 @@ use Rattle.key_shard.specs.Past.{standing, quar_of}
 use Rattle.sql_keeper.specs.declared.stores.Commit.{Commit}
 use Rattle.session_client.specs.declared.plans.Plan.{Plan}
 use Rattle.session_client.specs.declared.replies.Reply.{Reply}
-use Rattle.session_client.specs.declared.replies.Reply.TheVariants as reply
+use Rattle.session_client.specs.declared.replies.Reply.TheVariants as Reply
 use Rattle.session_client.specs.Plans.{writes, changes_of, shift_in}
 use Rattle.session_client.specs.Wants.{is_commit}
-use Rattle.core_history.specs.Events.{Event, Stepped, Called, Ticked, Swept, commits_told, log_of}
+use Rattle.core_history.specs.Events.{Event, Stepped, Called, Ticked, Swept, commits_of_reply, log_of}
 use Rattle.core_history.specs.Machine.{plan_at}
 use Rattle.core_history.proofs.ListLemmas.{every-weaker, push-place, slice-front}
 use Rattle.core_history.proofs.KeyLemmas.{IsQuietStep, GrantsSo, standing-every, quar-every}
@@ -81,22 +81,22 @@ ArePlanned plans log = (place : ℕ) (commit : Commit) → slice_get log place �
 
 -- so has one that a reply tells of
 abbrev pub IsPlannedReply : List Plan → Sid → Reply → Type 0
-IsPlannedReply plans who (reply.Committed number txn grants) = IsPlannedCommit plans (record { sid = who; txn = txn })
+IsPlannedReply plans who (Reply.Committed number txn grants) = IsPlannedCommit plans (record { sid = who; txn = txn })
 IsPlannedReply plans who other = Unit {0}
 
 abbrev pub IsPlannedEvent : List Plan → Event → Type 0
-IsPlannedEvent plans (Stepped place who request s told) = IsPlannedReply plans who told
-IsPlannedEvent plans (Called who request told) = IsPlannedReply plans who told
+IsPlannedEvent plans (Stepped place who request s reply) = IsPlannedReply plans who reply
+IsPlannedEvent plans (Called who request reply) = IsPlannedReply plans who reply
 IsPlannedEvent plans (Ticked now) = Unit {0}
-IsPlannedEvent plans (Swept place request made told) = Unit {0}
+IsPlannedEvent plans (Swept place request made reply) = Unit {0}
 
 -- a step that grants nothing is planned, and so is a reply that tells of no commit
 pub quiet-planned : (plans : List Plan) (s : Step) → IsQuietStep s → GrantsPlanned plans s
 quiet-planned plans (step.Granted on sid mode shift now token deadline) quiet = absurd quiet
 quiet-planned plans other quiet = tt
 
-pub mild-planned : (plans : List Plan) (who : Sid) (told : Reply) → is_commit told ≡ false → IsPlannedReply plans who told
-mild-planned plans who (reply.Committed number txn grants) mild = cc
+pub mild-planned : (plans : List Plan) (who : Sid) (reply : Reply) → is_commit reply ≡ false → IsPlannedReply plans who reply
+mild-planned plans who (Reply.Committed number txn grants) mild = cc
 mild-planned plans who other mild = tt
 
 -- each quarantine that stands is planned
@@ -109,21 +109,21 @@ pub planned-quar : (plans : List Plan) (key : QKey) (token : ℕ) (past : List S
 planned-quar plans key token past quar h found = (quar-every (IsPlanned plans) key token past quar (all-so plans past h) found).0
 
 -- the log after an event
-told-planned : (plans : List Plan) (who : Sid) (told : Reply) (log : List Commit)
-    → IsPlannedReply plans who told → ArePlanned plans log → ArePlanned plans (log ++ commits_told who told)
-told-planned plans who (reply.Committed number txn grants) log new old place commit at =
+reply-planned : (plans : List Plan) (who : Sid) (reply : Reply) (log : List Commit)
+    → IsPlannedReply plans who reply → ArePlanned plans log → ArePlanned plans (log ++ commits_of_reply who reply)
+reply-planned plans who (Reply.Committed number txn grants) log new old place commit at =
     elim (push-place log (record { sid = who; txn = txn }) place commit at) [
       | inl before ↦ old place commit before
       | inr last ↦ subst (IsPlannedCommit plans) last.1 new
     ]
-told-planned plans who other log new old place commit at = old place commit (sym (ap (λ l. slice_get l place) (append-nil log)) ∙ at)
+reply-planned plans who other log new old place commit at = old place commit (sym (ap (λ l. slice_get l place) (append-nil log)) ∙ at)
 
 pub logged-more : (plans : List Plan) (event : Event) (past : List Event)
     → IsPlannedEvent plans event → ArePlanned plans (log_of past) → ArePlanned plans (log_of (event ∷ past))
-logged-more plans (Stepped place who request s told) past new old = told-planned plans who told (log_of past) new old
-logged-more plans (Called who request told) past new old = told-planned plans who told (log_of past) new old
+logged-more plans (Stepped place who request s reply) past new old = reply-planned plans who reply (log_of past) new old
+logged-more plans (Called who request reply) past new old = reply-planned plans who reply (log_of past) new old
 logged-more plans (Ticked now) past new old = λ place commit at. old place commit (sym (ap (λ l. slice_get l place) (append-nil (log_of past))) ∙ at)
-logged-more plans (Swept shard request made told) past new old =
+logged-more plans (Swept shard request made reply) past new old =
     λ place commit at. old place commit (sym (ap (λ l. slice_get l place) (append-nil (log_of past))) ∙ at)
 
 -- with one plan more

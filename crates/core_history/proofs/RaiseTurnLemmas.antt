@@ -27,18 +27,18 @@ use Rattle.key_freshness.specs.Known.{IsLogged}
 use Rattle.session_client.specs.declared.plans.Plan.{Plan}
 use Rattle.session_client.specs.declared.plans.Shape.{Shape}
 use Rattle.session_client.specs.declared.replies.Reply.{Reply}
-use Rattle.session_client.specs.declared.replies.Reply.TheVariants as reply
+use Rattle.session_client.specs.declared.replies.Reply.TheVariants as Reply
 use Rattle.session_client.specs.declared.replies.Wanted.{Wanted}
 use Rattle.session_client.specs.declared.replies.Wanted.TheVariants as wanted
 use Rattle.session_client.specs.Plans.{mode_of, mode_on}
 use Rattle.session_client.specs.Wants.{granted, is_release, turned, writing_of, write_wants}
-use Rattle.core_history.specs.Events.{Event, Stepped, steps_of, told_to, log_of, now_of, has_committed}
+use Rattle.core_history.specs.Events.{Event, Stepped, steps_of, heard_by, log_of, now_of, has_committed}
 use Rattle.core_history.specs.Machine.{World, Said, terms_of, raise_shown, renewal_shown}
 use Rattle.core_history.proofs.ListLemmas.{choose, count-cons, not_both}
 use Rattle.core_history.proofs.GoodEvents.{IsGoodEvent}
-use Rattle.core_history.proofs.EventLemmas.{closed, counted-mild, logged-committed, committed-told}
+use Rattle.core_history.proofs.EventLemmas.{closed, counted-mild, logged-committed, committed-heard}
 use Rattle.core_history.proofs.KeyLemmas.{was-quar}
-use Rattle.core_history.proofs.SessionLemmas.{Stood, is_going, finds-apart, finds-none, stood-stepped, without-other, number-more, writer-told, writer-mild}
+use Rattle.core_history.proofs.SessionLemmas.{Stood, is_going, finds-apart, finds-none, stood-stepped, without-other, number-more, writer-heard, writer-mild}
 use Rattle.core_history.proofs.InnerLemmas.{Inner, with_event, stepped-inner, quiet-inner, stands_well}
 use Rattle.core_history.proofs.ReadTurnLemmas.{After}
 use Rattle.core_history.proofs.WritingLemmas.{IsWriter}
@@ -51,13 +51,13 @@ not-shared grant (Some other) some e = cc
 not-shared grant None some e = absurd (false≢true some)
 
 module _ (shape : Shape) (world : World) (who : Sid) (plan : Plan) (grant : Permit) (inner : Inner shape world) (w : IsWriter shape world who.number plan)
-    (at : slice_get (granted (told_to who.number world.past)) (turned (told_to who.number world.past)) ≡ Some grant)
-    (going : is_going (told_to who.number world.past) ≡ true) where
+    (at : slice_get (granted (heard_by who.number world.past)) (turned (heard_by who.number world.past)) ≡ Some grant)
+    (going : is_going (heard_by who.number world.past) ≡ true) where
   abbrev past : List Event
   past = world.past
 
   abbrev heard : List Reply
-  heard = told_to who.number world.past
+  heard = heard_by who.number world.past
 
   abbrev home : ℕ
   home = shard_of grant.key shape.shards
@@ -87,10 +87,10 @@ module _ (shape : Shape) (world : World) (who : Sid) (plan : Plan) (grant : Perm
   abbrev Renews : Step → Event
   Renews x = Stepped home who (wanted.Renew grant) x (renewal_shown grant terms steps x)
 
-  renewed-keeps : (now deadline : ℕ) (told : Reply) (n : ℕ) (g : Permit) → Stood shape past n g
-      → Stood shape (Stepped home who (wanted.Renew grant) (step.Renewed grant.key grant.sid grant.token now deadline) told ∷ past) n g
-  renewed-keeps now deadline told n g h =
-      stood-stepped shape home who (wanted.Renew grant) (step.Renewed grant.key grant.sid grant.token now deadline) told past n g
+  renewed-keeps : (now deadline : ℕ) (reply : Reply) (n : ℕ) (g : Permit) → Stood shape past n g
+      → Stood shape (Stepped home who (wanted.Renew grant) (step.Renewed grant.key grant.sid grant.token now deadline) reply ∷ past) n g
+  renewed-keeps now deadline reply n g h =
+      stood-stepped shape home who (wanted.Renew grant) (step.Renewed grant.key grant.sid grant.token now deadline) reply past n g
       (λ there still stands.
       let xs = standing g.key (steps_of home past) in
       choose (λ l. list_any (is_of_permit g) l ≡ true) (same_key g.key grant.key) (map (renewed grant.token deadline) xs) xs
@@ -104,23 +104,23 @@ module _ (shape : Shape) (world : World) (who : Sid) (plan : Plan) (grant : Perm
   renewed-turn now deadline answers =
       let request = wanted.Renew grant in
       let s = step.Renewed grant.key grant.sid grant.token now deadline in
-      let told = reply.Renew grant (Some (renewal.Renewed deadline)) in
-      let event = Stepped home who request s told in (
-        stepped-inner shape world home who request s told inner answers tt tt refl
-            (counted-mild shape.shards home who request s told (λ k v. refl) refl)
-            (λ n other. finds-none shape home who request s told past n (λ k t. refl))
-            (λ n other g mine. renewed-keeps now deadline told n g)
-            (w.stays event told (writer-mild shape event past who.number told heard (writing_of plan)
+      let reply = Reply.Renew grant (Some (renewal.Renewed deadline)) in
+      let event = Stepped home who request s reply in (
+        stepped-inner shape world home who request s reply inner answers tt tt refl
+            (counted-mild shape.shards home who request s reply (λ k v. refl) refl)
+            (λ n other. finds-none shape home who request s reply past n (λ k t. refl))
+            (λ n other g mine. renewed-keeps now deadline reply n g)
+            (w.stays event reply (writer-mild shape event past who.number reply heard (writing_of plan)
             (record { brings = record { none = refl; kept = λ p g. refl; left = λ p g. refl }; calm = refl; had = refl; release = refl; commit = refl })
-            (finds-none shape home who request s told past who.number (λ k t. refl)) (λ g mine. renewed-keeps now deadline told who.number g)
+            (finds-none shape home who request s reply past who.number (λ k t. refl)) (λ g mine. renewed-keeps now deadline reply who.number g)
             (λ e. absurd (false≢true e)) (λ _. going) w.writer)),
         record { home = refl; good = tt; own = tt; no_commit = refl; no_end = refl },
       )
 
-  gone-keeps : (told : Reply) (n : ℕ) (g : Permit) → Stood shape past n g
-      → Stood shape (Stepped home who (wanted.Renew grant) (step.Gone grant.key grant.sid grant.token) told ∷ past) n g
-  gone-keeps told n g h =
-      stood-stepped shape home who (wanted.Renew grant) (step.Gone grant.key grant.sid grant.token) told past n g
+  gone-keeps : (reply : Reply) (n : ℕ) (g : Permit) → Stood shape past n g
+      → Stood shape (Stepped home who (wanted.Renew grant) (step.Gone grant.key grant.sid grant.token) reply ∷ past) n g
+  gone-keeps reply n g h =
+      stood-stepped shape home who (wanted.Renew grant) (step.Gone grant.key grant.sid grant.token) reply past n g
       (λ there still stands. stands) (λ terms out is. is) h
 
   unrenewed-turn : Answers terms steps (step.Gone grant.key grant.sid grant.token)
@@ -129,12 +129,12 @@ module _ (shape : Shape) (world : World) (who : Sid) (plan : Plan) (grant : Perm
   unrenewed-turn answers =
       let request = wanted.Renew grant in
       let s = step.Gone grant.key grant.sid grant.token in
-      let told = reply.Renew grant (Some renewal.Gone) in
-      let event = Stepped home who request s told in (
-        quiet-inner shape world home who request s told inner answers tt (λ t x out. refl) refl refl
-            (w.stays event told (writer-mild shape event past who.number told heard (writing_of plan)
+      let reply = Reply.Renew grant (Some renewal.Gone) in
+      let event = Stepped home who request s reply in (
+        quiet-inner shape world home who request s reply inner answers tt (λ t x out. refl) refl refl
+            (w.stays event reply (writer-mild shape event past who.number reply heard (writing_of plan)
             (record { brings = record { none = refl; kept = λ p g. refl; left = λ p g. refl }; calm = refl; had = refl; release = refl; commit = refl })
-            (finds-none shape home who request s told past who.number (λ k t. refl)) (λ g mine. gone-keeps told who.number g)
+            (finds-none shape home who request s reply past who.number (λ k t. refl)) (λ g mine. gone-keeps reply who.number g)
             (λ e. absurd (false≢true e)) (λ _. going) w.writer)),
         record { home = refl; good = tt; own = tt; no_commit = refl; no_end = refl },
       )
@@ -154,7 +154,7 @@ module _ (shape : Shape) (world : World) (who : Sid) (plan : Plan) (grant : Perm
       refl
 
   -- a raise
-  module _ (wants : write_wants (writing_of plan) false (told_to who.number world.past) ≡ wanted.Raise grant) where
+  module _ (wants : write_wants (writing_of plan) false (heard_by who.number world.past) ≡ wanted.Raise grant) where
     abbrev Raises : Step → Event
     Raises x = Stepped home who (wanted.Raise grant) x (raise_shown grant terms steps x)
 
@@ -192,7 +192,7 @@ module _ (shape : Shape) (world : World) (who : Sid) (plan : Plan) (grant : Perm
       before : IsLogged (log_of past) grant.sid.number → ⊥
       before logged =
           not_both (logged-committed grant.sid.number past logged)
-          (subst (λ n. has_committed n past ≡ false) (sym own) (committed-told who.number past ∙ (w.writer.going going).0))
+          (subst (λ n. has_committed n past ≡ false) (sym own) (committed-heard who.number past ∙ (w.writer.going going).0))
 
       raised-turn : Answers terms steps (step.Raised grant.key grant.sid grant.token)
           → Inner shape (with_event world (Raises (step.Raised grant.key grant.sid grant.token)))
@@ -205,14 +205,14 @@ module _ (shape : Shape) (world : World) (who : Sid) (plan : Plan) (grant : Perm
           request : Wanted
           request = wanted.Raise grant
 
-          told : Permit → Reply
-          told g = reply.Raise (raising.Raised g (entry grant.key steps))
+          reply : Permit → Reply
+          reply g = Reply.Raise (raising.Raised g (entry grant.key steps))
 
           T : Permit → Type 0
-          T g = Inner shape (with_event world (Stepped home who request s (told g))) × IsGoodEvent shape past (Stepped home who request s (told g))
+          T g = Inner shape (with_event world (Stepped home who request s (reply g))) × IsGoodEvent shape past (Stepped home who request s (reply g))
 
           up : Reply
-          up = told (lifted_grant grant)
+          up = reply (lifted_grant grant)
 
           good : IsGoodEvent shape past (Stepped home who request s up)
           good = record {
@@ -238,19 +238,19 @@ module _ (shape : Shape) (world : World) (who : Sid) (plan : Plan) (grant : Perm
     shared-turn other answers =
         let request = wanted.Raise grant in
         let s = step.Shared grant.key grant.sid grant.token other.sid in
-        let told = reply.Raise (raising.Shared grant other.sid) in
-        let event = Stepped home who request s told in
+        let reply = Reply.Raise (raising.Shared grant other.sid) in
+        let event = Stepped home who request s reply in
         let keeps : (n : ℕ) (g : Permit) → Stood shape past n g → Stood shape (event ∷ past) n g = λ n g h.
-        stood-stepped shape home who request s told past n g (λ there still stands. stands) (λ terms out is. is) h in
-        let c = count-cons is_release told heard in
+        stood-stepped shape home who request s reply past n g (λ there still stands. stands) (λ terms out is. is) h in
+        let c = count-cons is_release reply heard in
         let none = (w.writer.going going).1 in (
-          stepped-inner shape world home who request s told inner answers tt tt refl
-              (counted-mild shape.shards home who request s told (λ k v. refl) refl)
-              (λ n apart. finds-none shape home who request s told past n (λ k t. refl))
+          stepped-inner shape world home who request s reply inner answers tt tt refl
+              (counted-mild shape.shards home who request s reply (λ k v. refl) refl)
+              (λ n apart. finds-none shape home who request s reply past n (λ k t. refl))
               (λ n apart g mine. keeps n g)
-              (w.stays event told (writer-told shape event past who.number told heard (writing_of plan)
+              (w.stays event reply (writer-heard shape event past who.number reply heard (writing_of plan)
               (record { none = refl; kept = λ p g. refl; left = λ p g. refl }) refl
-              (finds-none shape home who request s told past who.number (λ k t. refl))
+              (finds-none shape home who request s reply past who.number (λ k t. refl))
               (λ i g there late. keeps who.number g (w.writer.stood i g there (omega (arith, late, c))))
               (inl (omega (arith, c, none))) (λ e. absurd (false≢true e))
               (λ number e. number-more event past who.number number (w.writer.numbered number e))
@@ -275,14 +275,14 @@ module _ (shape : Shape) (world : World) (who : Sid) (plan : Plan) (grant : Perm
     spent-turn shut answers =
         let request = wanted.Raise grant in
         let s = step.Gone grant.key grant.sid grant.token in
-        let told = reply.Raise raising.Gone in
-        let event = Stepped home who request s told in (
-          stepped-inner shape world home who request s told inner answers tt tt refl
-              (counted-mild shape.shards home who request s told (λ k v. refl) refl)
-              (λ n other. finds-none shape home who request s told past n (λ k t. refl))
-              (λ n other g mine h. stood-stepped shape home who request s told past n g (λ there still stands. stands)
+        let reply = Reply.Raise raising.Gone in
+        let event = Stepped home who request s reply in (
+          stepped-inner shape world home who request s reply inner answers tt tt refl
+              (counted-mild shape.shards home who request s reply (λ k v. refl) refl)
+              (λ n other. finds-none shape home who request s reply past n (λ k t. refl))
+              (λ n other g mine h. stood-stepped shape home who request s reply past n g (λ there still stands. stands)
               (λ terms out is. without-other g grant out (λ same. other (sym own ∙ ap (λ (p : Permit). p.sid.number) same ∙ mine)) is) h)
-              (w.stays event told (writer-spent shape past who grant heard (writing_of plan) w.writer at going in_mode shut)),
+              (w.stays event reply (writer-spent shape past who grant heard (writing_of plan) w.writer at going in_mode shut)),
           record { home = refl; good = tt; own = tt; no_commit = refl; no_end = refl },
         )
 

@@ -22,7 +22,7 @@ use Rattle.key_shard.specs.declared.replies.QAnswer.TheVariants as quarantine
 use Rattle.session_client.specs.declared.plans.Plan.{Plan}
 use Rattle.session_client.specs.declared.plans.Plan.TheVariants.{Read, Write, Look, Quit, Skip, Raise, Renew}
 use Rattle.session_client.specs.declared.replies.Reply.{Reply}
-use Rattle.session_client.specs.declared.replies.Reply.TheVariants as reply
+use Rattle.session_client.specs.declared.replies.Reply.TheVariants as Reply
 use Rattle.session_client.specs.declared.replies.Wanted.TheVariants as wanted
 use Rattle.session_client.specs.Plans.{mode_of, mode_on}
 use Rattle.session_client.specs.Wants.{Writing, Then, Commits, Looks, Quits, Raises, Renews, then_of, granted, turned, is_had, has_all, write_wants}
@@ -139,24 +139,24 @@ fault-head writing heard grant false e = cc
 pub raise-head : (writing : Writing) (heard : List Reply) (grant : Permit) → is_going heard ≡ true → write_wants writing false heard ≡ wanted.Raise grant
     → (raises_last heard ≡ true) ⊎ (writing.next ≡ Raises)
 raise-head writing [] grant going e = inr (next-head writing [] grant e)
-raise-head writing (reply.Quar (quarantine.Granted given old) ∷ heard) grant going e =
-    inr (next-head writing (reply.Quar (quarantine.Granted given old) ∷ heard) grant e)
-raise-head writing (reply.Quar quarantine.Held ∷ heard) grant going e = inr (next-head writing (reply.Quar quarantine.Held ∷ heard) grant e)
-raise-head writing (reply.Quar (quarantine.Refused holder held) ∷ heard) grant going e = absurd cc
-raise-head writing (reply.Raise told ∷ heard) grant going e = inl refl
-raise-head writing (reply.RaiseBack back ∷ heard) grant going e = inl refl
-raise-head writing (reply.Renew back told ∷ heard) grant going e =
-    absurd (renews-head writing (reply.Renew back told ∷ heard) grant
-    (slice_get (granted (reply.Renew back told ∷ heard)) (turned (reply.Renew back told ∷ heard))) e)
-raise-head writing (reply.Fault fault ∷ heard) grant going e = absurd (fault-head writing heard grant (has_all writing heard) e)
-raise-head writing (reply.Got found ∷ heard) grant going e = absurd (look-head writing heard grant writing.next found e)
-raise-head writing (reply.Staged value txn ∷ heard) grant going e = absurd cc
-raise-head writing (reply.NotStaged fault txn ∷ heard) grant going e = absurd cc
-raise-head writing (reply.NotCommitted fault txn grants ∷ heard) grant going e = absurd cc
-raise-head writing (reply.Answer answer ∷ heard) grant going e = absurd cc
-raise-head writing (reply.Set told ∷ heard) grant going e = absurd cc
-raise-head writing (reply.Committed number txn grants ∷ heard) grant going e = absurd (false≢true going)
-raise-head writing (reply.End was ∷ heard) grant going e = absurd (false≢true going)
-raise-head writing (reply.Rel told ∷ heard) grant going e = absurd (false≢true going)
-raise-head writing (reply.SarBack back ∷ heard) grant going e = absurd (false≢true going)
-raise-head writing (reply.Nothing ∷ heard) grant going e = absurd (false≢true going)
+raise-head writing (Reply.Quar (quarantine.Granted given old) ∷ heard) grant going e =
+    inr (next-head writing (Reply.Quar (quarantine.Granted given old) ∷ heard) grant e)
+raise-head writing (Reply.Quar quarantine.Held ∷ heard) grant going e = inr (next-head writing (Reply.Quar quarantine.Held ∷ heard) grant e)
+raise-head writing (Reply.Quar (quarantine.Refused holder held) ∷ heard) grant going e = absurd cc
+raise-head writing (Reply.Raise answer ∷ heard) grant going e = inl refl
+raise-head writing (Reply.RaiseBack back ∷ heard) grant going e = inl refl
+raise-head writing (Reply.Renew back answer ∷ heard) grant going e =
+    absurd (renews-head writing (Reply.Renew back answer ∷ heard) grant
+    (slice_get (granted (Reply.Renew back answer ∷ heard)) (turned (Reply.Renew back answer ∷ heard))) e)
+raise-head writing (Reply.Fault fault ∷ heard) grant going e = absurd (fault-head writing heard grant (has_all writing heard) e)
+raise-head writing (Reply.Got found ∷ heard) grant going e = absurd (look-head writing heard grant writing.next found e)
+raise-head writing (Reply.Staged value txn ∷ heard) grant going e = absurd cc
+raise-head writing (Reply.NotStaged fault txn ∷ heard) grant going e = absurd cc
+raise-head writing (Reply.NotCommitted fault txn grants ∷ heard) grant going e = absurd cc
+raise-head writing (Reply.Answer answer ∷ heard) grant going e = absurd cc
+raise-head writing (Reply.Set answer ∷ heard) grant going e = absurd cc
+raise-head writing (Reply.Committed number txn grants ∷ heard) grant going e = absurd (false≢true going)
+raise-head writing (Reply.End was ∷ heard) grant going e = absurd (false≢true going)
+raise-head writing (Reply.Rel answer ∷ heard) grant going e = absurd (false≢true going)
+raise-head writing (Reply.SarBack back ∷ heard) grant going e = absurd (false≢true going)
+raise-head writing (Reply.Nothing ∷ heard) grant going e = absurd (false≢true going)

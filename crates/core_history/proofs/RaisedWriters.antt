@@ -23,7 +23,7 @@ use Rattle.key_shard.proofs.RaiseLemmas.{lifted, raised-here, raised-apart, quar
 use Rattle.sql_keeper.specs.Commits.{covers, is_covered}
 use Rattle.session_client.specs.declared.plans.Shape.{Shape}
 use Rattle.session_client.specs.declared.replies.Reply.{Reply}
-use Rattle.session_client.specs.declared.replies.Reply.TheVariants as reply
+use Rattle.session_client.specs.declared.replies.Reply.TheVariants as Reply
 use Rattle.session_client.specs.declared.replies.Wanted.TheVariants as wanted
 use Rattle.session_client.specs.Wants.{Writing, given, granted, is_had, is_release, is_turn, released, turned}
 use Rattle.session_client.proofs.WantCases.{given-granted}
@@ -65,13 +65,13 @@ permit-apart grant other differ =
     differ (sym (same_key-true grant.key other.key parts.0), eqb-true other.token grant.token parts.1)))
 
 -- so another grant stands as before
-pub stood-apart : (shape : Shape) (who : Sid) (grant : Permit) (told : Reply) (past : List Event) (n : ℕ) (other : Permit) → (AreOne grant other → ⊥)
+pub stood-apart : (shape : Shape) (who : Sid) (grant : Permit) (reply : Reply) (past : List Event) (n : ℕ) (other : Permit) → (AreOne grant other → ⊥)
     → Stood shape past n other
-    → Stood shape (Stepped (shard_of grant.key shape.shards) who (wanted.Raise grant) (step.Raised grant.key grant.sid grant.token) told ∷ past) n other
-stood-apart shape who grant told past n other differ h =
+    → Stood shape (Stepped (shard_of grant.key shape.shards) who (wanted.Raise grant) (step.Raised grant.key grant.sid grant.token) reply ∷ past) n other
+stood-apart shape who grant reply past n other differ h =
     let home = shard_of grant.key shape.shards in
     let s = step.Raised grant.key grant.sid grant.token in
-    stood-stepped shape home who (wanted.Raise grant) s told past n other
+    stood-stepped shape home who (wanted.Raise grant) s reply past n other
     (λ at still stands.
     choose (λ l. list_any (is_of_permit other) l ≡ true) (same_key other.key grant.key)
     (map (raised grant.token) (standing other.key (steps_of home past))) (standing other.key (steps_of home past))
@@ -102,14 +102,14 @@ same-grants : (grant : Permit) (s : Step) → grants grant s ≡ true → grants
 same-grants grant (step.Granted on sid mode shift now token deadline) h = h
 same-grants grant other h = absurd (false≢true h)
 
-stood-lifted : (shape : Shape) (who : Sid) (grant : Permit) (told : Reply) (past : List Event) (n : ℕ) → Stood shape past n grant
-    → Stood shape (Stepped (shard_of grant.key shape.shards) who (wanted.Raise grant) (step.Raised grant.key grant.sid grant.token) told ∷ past) n
+stood-lifted : (shape : Shape) (who : Sid) (grant : Permit) (reply : Reply) (past : List Event) (n : ℕ) → Stood shape past n grant
+    → Stood shape (Stepped (shard_of grant.key shape.shards) who (wanted.Raise grant) (step.Raised grant.key grant.sid grant.token) reply ∷ past) n
     (lifted_grant grant)
-stood-lifted shape who grant told past n h =
+stood-lifted shape who grant reply past n h =
     let home = shard_of grant.key shape.shards in
     let s = step.Raised grant.key grant.sid grant.token in
     let steps = steps_of home past in
-    let event = Stepped home who (wanted.Raise grant) s told in
+    let event = Stepped home who (wanted.Raise grant) s reply in
     let here : (home == home) ≡ true = eq-eqb home home refl in
     let up = lifted_grant grant in
     let out = out_of shape home past in
@@ -134,10 +134,10 @@ stood-lifted shape who grant told past n h =
     still-before event past n still = not_true (closed n past) (λ shut. not_both (closed-more n event past shut) still)
 
 -- a quarantine that stands under its token afterwards is to refresh
-suits-lifted : (shape : Shape) (who : Sid) (grant : Permit) (told : Reply) (past : List Event)
-    → Suits shape (Stepped (shard_of grant.key shape.shards) who (wanted.Raise grant) (step.Raised grant.key grant.sid grant.token) told ∷ past)
+suits-lifted : (shape : Shape) (who : Sid) (grant : Permit) (reply : Reply) (past : List Event)
+    → Suits shape (Stepped (shard_of grant.key shape.shards) who (wanted.Raise grant) (step.Raised grant.key grant.sid grant.token) reply ∷ past)
     (lifted_grant grant)
-suits-lifted shape who grant told past quar =
+suits-lifted shape who grant reply past quar =
     let home = shard_of grant.key shape.shards in
     let s = step.Raised grant.key grant.sid grant.token in
     let steps = steps_of home past in
@@ -160,8 +160,8 @@ suits-lifted shape who grant told past quar =
         by false is rest h = rest h
 
 -- what a session is told of a raise
-abbrev pub raised_told : Permit → Option (List ℕ × ℕ) → Reply
-raised_told grant old = reply.Raise (raising.Raised (lifted_grant grant) old)
+abbrev pub raised_reply : Permit → Option (List ℕ × ℕ) → Reply
+raised_reply grant old = Reply.Raise (raising.Raised (lifted_grant grant) old)
 
 module _ (shape : Shape) (past : List Event) (who : Sid) (grant : Permit) (heard : List Reply) (writing : Writing)
     (w : Writer shape past who.number heard writing) (at : slice_get (granted heard) (turned heard) ≡ Some grant) (going : is_going heard ≡ true)
@@ -172,51 +172,51 @@ module _ (shape : Shape) (past : List Event) (who : Sid) (grant : Permit) (heard
   abbrev old : Option (List ℕ × ℕ)
   old = entry grant.key (steps_of home past)
 
-  abbrev told : Reply
-  told = raised_told grant old
+  abbrev its_reply : Reply
+  its_reply = raised_reply grant old
 
   abbrev s : Step
   s = step.Raised grant.key grant.sid grant.token
 
   abbrev event : Event
-  event = Stepped home who (wanted.Raise grant) s told
+  event = Stepped home who (wanted.Raise grant) s its_reply
 
-  news : granted (told ∷ heard) ≡ set (granted heard) (turned heard) (lifted_grant grant)
+  news : granted (its_reply ∷ heard) ≡ set (granted heard) (turned heard) (lifted_grant grant)
   news = append-nil (set (granted heard) (turned heard) (lifted_grant grant))
 
-  gives : given (told ∷ heard) ≡ set (given heard) (turned heard) (record { permit = lifted_grant grant; old = old })
+  gives : given (its_reply ∷ heard) ≡ set (given heard) (turned heard) (record { permit = lifted_grant grant; old = old })
   gives = append-nil (set (given heard) (turned heard) (record { permit = lifted_grant grant; old = old }))
 
-  evers : ever (told ∷ heard) ≡ ever heard
+  evers : ever (its_reply ∷ heard) ≡ ever heard
   evers = append-nil (ever heard)
 
   -- the raised one, or another
-  which : (i : ℕ) (g : Permit) → slice_get (granted (told ∷ heard)) i ≡ Some g
+  which : (i : ℕ) (g : Permit) → slice_get (granted (its_reply ∷ heard)) i ≡ Some g
       → ((i ≡ turned heard) × (lifted_grant grant ≡ g)) ⊎ ((i ≢ turned heard) × (slice_get (granted heard) i ≡ Some g))
   which i g e = set-place (granted heard) (turned heard) i (lifted_grant grant) g (sym (ap (λ l. slice_get l i) news) ∙ e)
 
   differs : (i : ℕ) (g : Permit) → i ≢ turned heard → slice_get (granted heard) i ≡ Some g → AreOne grant g → ⊥
   differs i g other e one = other (w.apart i (turned heard) g grant e at one.0)
 
-  fresh : released (told ∷ heard) ≡ released heard
-  fresh = let c = count-cons is_release told heard in omega (arith, c)
+  fresh : released (its_reply ∷ heard) ≡ released heard
+  fresh = let c = count-cons is_release its_reply heard in omega (arith, c)
 
-  moved : turned (told ∷ heard) ≡ turned heard + 1
-  moved = let c = count-cons is_turn told heard in omega (arith, c)
+  moved : turned (its_reply ∷ heard) ≡ turned heard + 1
+  moved = let c = count-cons is_turn its_reply heard in omega (arith, c)
 
   kept : (i : ℕ) (g : Permit) → i ≢ turned heard → slice_get (granted heard) i ≡ Some g → Suits shape (event ∷ past) g
   kept i g other e quar stands =
-      let was = (finds-apart shape home who (wanted.Raise grant) s told past g (raises-apart grant g (differs i g other e))).1 quar stands in
+      let was = (finds-apart shape home who (wanted.Raise grant) s its_reply past g (raises-apart grant g (differs i g other e))).1 quar stands in
       sym was.2 ∙ w.suits i g e was.0 was.1
 
   found-same : (i : ℕ) (g : Permit) → i ≢ turned heard → slice_get (granted heard) i ≡ Some g
       → found_at g.key g.token (event ∷ past) ≡ found_at g.key g.token past
-  found-same i g other e = (finds-apart shape home who (wanted.Raise grant) s told past g (raises-apart grant g (differs i g other e))).0
+  found-same i g other e = (finds-apart shape home who (wanted.Raise grant) s its_reply past g (raises-apart grant g (differs i g other e))).0
 
   abbrev now_found : Found
   now_found = record { commits = length (log_of past); entry = entry grant.key (steps_of home past) }
 
-  pub writer-raised : Writer shape (event ∷ past) who.number (told ∷ heard) writing
+  pub writer-raised : Writer shape (event ∷ past) who.number (its_reply ∷ heard) writing
   writer-raised =
       let n = who.number in
       let free = w.going going in
@@ -225,7 +225,7 @@ module _ (shape : Shape) (past : List Event) (who : Sid) (grant : Permit) (heard
       record {
         once = w.once;
         placed = λ i g e. w.placed i g (sym (ap (λ l. slice_get l i) evers) ∙ e);
-        had = let a = count-cons is_had told heard in let had = w.had in let len = ap length evers in omega (arith, a, had, len);
+        had = let a = count-cons is_had its_reply heard in let had = w.had in let len = ap length evers in omega (arith, a, had, len);
         asked = λ asks. absurd (false≢true asks);
         fits = λ i g e. elim (which i g e) [
           | inl here ↦ subst (Fits n writing) here.1 (record { own = (w.fits (turned heard) grant at).own; in_mode = inr refl })
@@ -248,11 +248,11 @@ module _ (shape : Shape) (past : List Event) (who : Sid) (grant : Permit) (heard
             (sym (ap (λ l. is_covered by l key) evers) ∙ covered));
         was = λ i g e. elim (which i g e) [
           | inl here ↦ subst (λ (p : Permit). list_any (grants p) (steps_of (shard_of p.key shape.shards) (event ∷ past)) ≡ true) here.1
-              (stood-lifted shape who grant told past n ready).was
+              (stood-lifted shape who grant its_reply past n ready).was
           | inr there ↦ granted-more shape event past g (w.was i g there.1)
         ];
         suits = λ i g e. elim (which i g e) [
-          | inl here ↦ subst (Suits shape (event ∷ past)) here.1 (suits-lifted shape who grant told past)
+          | inl here ↦ subst (Suits shape (event ∷ past)) here.1 (suits-lifted shape who grant its_reply past)
           | inr there ↦ kept i g there.0 there.1
         ];
         drawn = λ i g e. elim (which i g e) [
@@ -260,8 +260,8 @@ module _ (shape : Shape) (past : List Event) (who : Sid) (grant : Permit) (heard
           | inr there ↦ drawn-more shape event past g (w.drawn i g there.1)
         ];
         stood = λ i g e late. elim (which i g e) [
-          | inl here ↦ subst (Stood shape (event ∷ past) n) here.1 (stood-lifted shape who grant told past n ready)
-          | inr there ↦ stood-apart shape who grant told past n g (differs i g there.0 there.1) (w.stood i g there.1 (omega (arith, late, fresh)))
+          | inl here ↦ subst (Stood shape (event ∷ past) n) here.1 (stood-lifted shape who grant its_reply past n ready)
+          | inr there ↦ stood-apart shape who grant its_reply past n g (differs i g there.0 there.1) (w.stood i g there.1 (omega (arith, late, fresh)))
         ];
         shut = subst (λ r. (r ≡ 0) ⊎ (closed n (event ∷ past) ≡ true)) (sym fresh) (shut-more n event past heard w.shut);
         ending = λ e. absurd (false≢true e);
@@ -293,29 +293,29 @@ pub writer-spent : (shape : Shape) (past : List Event) (who : Sid) (grant : Perm
     → Writer shape past who.number heard writing → slice_get (granted heard) (turned heard) ≡ Some grant → is_going heard ≡ true → writing.mode ≡ Invalidate
     → closed who.number past ≡ true
     → Writer shape (Stepped (shard_of grant.key shape.shards) who (wanted.Raise grant) (step.Gone grant.key grant.sid grant.token)
-    (reply.Raise raising.Gone) ∷ past)
-    who.number (reply.Raise raising.Gone ∷ heard) writing
+    (Reply.Raise raising.Gone) ∷ past)
+    who.number (Reply.Raise raising.Gone ∷ heard) writing
 writer-spent shape past who grant heard writing w at going in_mode closed_now =
     let n = who.number in
     let home = shard_of grant.key shape.shards in
     let s = step.Gone grant.key grant.sid grant.token in
-    let told = reply.Raise raising.Gone in
-    let event = Stepped home who (wanted.Raise grant) s told in
-    let finds : Finds shape event past n = finds-none shape home who (wanted.Raise grant) s told past n (λ k t. refl) in
-    let news : granted (told ∷ heard) ≡ remove (granted heard) (turned heard) = append-nil (remove (granted heard) (turned heard)) in
-    let gives : given (told ∷ heard) ≡ remove (given heard) (turned heard) = append-nil (remove (given heard) (turned heard)) in
-    let evers : ever (told ∷ heard) ≡ ever heard = append-nil (ever heard) in
-    let which : (i : ℕ) (g : Permit) → slice_get (granted (told ∷ heard)) i ≡ Some g → WasAt (granted heard) (turned heard) i g = λ i g e.
+    let reply = Reply.Raise raising.Gone in
+    let event = Stepped home who (wanted.Raise grant) s reply in
+    let finds : Finds shape event past n = finds-none shape home who (wanted.Raise grant) s reply past n (λ k t. refl) in
+    let news : granted (reply ∷ heard) ≡ remove (granted heard) (turned heard) = append-nil (remove (granted heard) (turned heard)) in
+    let gives : given (reply ∷ heard) ≡ remove (given heard) (turned heard) = append-nil (remove (given heard) (turned heard)) in
+    let evers : ever (reply ∷ heard) ≡ ever heard = append-nil (ever heard) in
+    let which : (i : ℕ) (g : Permit) → slice_get (granted (reply ∷ heard)) i ≡ Some g → WasAt (granted heard) (turned heard) i g = λ i g e.
     remove-place (granted heard) (turned heard) i g (sym (ap (λ l. slice_get l i) news) ∙ e) in
     let free = w.going going in
-    let c = count-cons is_release told heard in
-    let fresh : released (told ∷ heard) ≡ released heard = omega (arith, c) in
-    let d = count-cons is_turn told heard in
-    let still_turned : turned (told ∷ heard) ≡ turned heard = omega (arith, d) in
+    let c = count-cons is_release reply heard in
+    let fresh : released (reply ∷ heard) ≡ released heard = omega (arith, c) in
+    let d = count-cons is_turn reply heard in
+    let still_turned : turned (reply ∷ heard) ≡ turned heard = omega (arith, d) in
     record {
       once = w.once;
       placed = λ i g e. w.placed i g (sym (ap (λ l. slice_get l i) evers) ∙ e);
-      had = let a = count-cons is_had told heard in let had = w.had in let len = ap length evers in omega (arith, a, had, len);
+      had = let a = count-cons is_had reply heard in let had = w.had in let len = ap length evers in omega (arith, a, had, len);
       asked = λ asks. absurd (false≢true asks);
       fits = λ i g e. let was = which i g e in w.fits was.place g was.at;
       apart = λ i j one two at_one at_two same.
@@ -330,7 +330,7 @@ writer-spent shape past who grant heard writing w at going in_mode closed_now =
           let was = which i g e in
           let other = was-other (granted heard) (turned heard) i g was in
           let low = other.1 in
-          stood-stepped shape home who (wanted.Raise grant) s told past n g (λ _ _ stands. stands)
+          stood-stepped shape home who (wanted.Raise grant) s reply past n g (λ _ _ stands. stands)
           (λ terms out is. without-other g grant out (λ same. other.0 (w.apart was.place (turned heard) g grant was.at at (ap (λ (p : Permit). p.key)
           (sym same)))) is)
           (w.stood was.place g was.at (omega (arith, late, fresh, low)));

@@ -28,17 +28,17 @@ use Rattle.sql_keeper.specs.Fresh.{quarantines}
 use Rattle.key_freshness.specs.Known.{IsAmong}
 use Rattle.session_client.specs.declared.plans.Plan.{Plan}
 use Rattle.session_client.specs.declared.plans.Shape.{Shape}
-use Rattle.session_client.specs.declared.replies.Reply.TheVariants as reply
+use Rattle.session_client.specs.declared.replies.Reply.TheVariants as Reply
 use Rattle.session_client.specs.declared.replies.Wanted.{Wanted}
 use Rattle.session_client.specs.declared.replies.Wanted.TheVariants as wanted
 use Rattle.session_client.specs.Plans.{changes_of, mode_of, mode_on, shift_in}
 use Rattle.session_client.specs.Wants.{Given, given, released, number_of, new_value, writing_of}
 use Rattle.session_client.proofs.WantCases.{given-granted, none-uncommitted}
-use Rattle.core_history.specs.Events.{Event, Stepped, steps_of, told_to, log_of, ended_of, has_committed}
+use Rattle.core_history.specs.Events.{Event, Stepped, steps_of, heard_by, log_of, ended_of, has_committed}
 use Rattle.core_history.specs.Machine.{World, Said, terms_of, plan_at, step_reply, put_step}
 use Rattle.core_history.specs.Facts.{grants_as}
 use Rattle.core_history.proofs.GoodEvents.{IsGoodStep, IsGoodEvent, WritesOwn}
-use Rattle.core_history.proofs.EventLemmas.{closed, closed-more, closed-over, ended-among, committed-told, uncommitted-more, late-stepped}
+use Rattle.core_history.proofs.EventLemmas.{closed, closed-more, closed-over, ended-among, committed-heard, uncommitted-more, late-stepped}
 use Rattle.core_history.proofs.EventLemmas.{counted-mild, IsKnown}
 use Rattle.core_history.proofs.SessionLemmas.{finds-none, ReturnsGrant, LeavesOpen, leaves-quiet, leaves-ended, stood-returned, IsNumber}
 use Rattle.core_history.proofs.WriterLemmas.{writer-released}
@@ -50,7 +50,7 @@ use Rattle.core_history.proofs.WritingLemmas.{IsWriter, IsMine, some_plan, stand
 -- the request releases the next grant that the session was given, and the session is closed
 pub record IsDueNext (shape : Shape) (world : World) (n : ℕ) (request : Wanted) (one : Given) : Type 0 where
   pub returns : ReturnsGrant one.permit request
-  pub at : slice_get (given (told_to n world.past)) (released (told_to n world.past)) ≡ Some one
+  pub at : slice_get (given (heard_by n world.past)) (released (heard_by n world.past)) ≡ Some one
   pub shut : closed n world.past ≡ true
 
 -- the past of the shard of a grant
@@ -68,28 +68,28 @@ Becomes shape world who request grant s =
     × IsGoodEvent shape world.past (released_event shape world who request grant s)
 
 -- a release that grants nothing, and leaves what stands for sessions that aren't closed
-returned-inner : (shape : Shape) (world : World) (who : Sid) (plan : Plan) (request : Wanted) (one : Given) (s : Step) (told : Rel)
+returned-inner : (shape : Shape) (world : World) (who : Sid) (plan : Plan) (request : Wanted) (one : Given) (s : Step) (answer : Rel)
     → Inner shape world → IsWriter shape world who.number plan
     → IsDueNext shape world who.number request one → Answers (terms_of shape (shard_of one.permit.key shape.shards)) (steps_for shape world one.permit) s
-    → IsKnown (Stepped (shard_of one.permit.key shape.shards) who request s (reply.Rel told) ∷ world.past) s → GrantsPlanned world.plans s
+    → IsKnown (Stepped (shard_of one.permit.key shape.shards) who request s (Reply.Rel answer) ∷ world.past) s → GrantsPlanned world.plans s
     → ((key : QKey) (by : Sid) → quarantines key by s ≡ false) → ((key : QKey) (token : ℕ) → grants_as key token s ≡ false)
     → LeavesOpen shape world.past (shard_of one.permit.key shape.shards) s
-    → Inner shape (with_event world (Stepped (shard_of one.permit.key shape.shards) who request s (reply.Rel told)))
-returned-inner shape world who plan request one s told inner w due answers known planned none calm leaves =
+    → Inner shape (with_event world (Stepped (shard_of one.permit.key shape.shards) who request s (Reply.Rel answer)))
+returned-inner shape world who plan request one s answer inner w due answers known planned none calm leaves =
     let past = world.past in
     let grant = one.permit in
     let home = shard_of grant.key shape.shards in
-    let heard = told_to who.number past in
-    let event = Stepped home who request s (reply.Rel told) in
+    let heard = heard_by who.number past in
+    let event = Stepped home who request s (Reply.Rel answer) in
     let at = given-granted heard (released heard) one due.at in
     let mine = (w.writer.fits (released heard) grant at).own in
-    stepped-inner shape world home who request s (reply.Rel told) inner answers known planned refl
-    (counted-mild shape.shards home who request s (reply.Rel told) none refl)
-    (λ n other. finds-none shape home who request s (reply.Rel told) past n calm)
-    (λ n other g own. stood-returned shape home who request s (reply.Rel told) past grant due.returns leaves n g
+    stepped-inner shape world home who request s (Reply.Rel answer) inner answers known planned refl
+    (counted-mild shape.shards home who request s (Reply.Rel answer) none refl)
+    (λ n other. finds-none shape home who request s (Reply.Rel answer) past n calm)
+    (λ n other g own. stood-returned shape home who request s (Reply.Rel answer) past grant due.returns leaves n g
     (λ same. other (sym mine ∙ ap (λ (p : Permit). p.sid.number) same ∙ own)))
-    (w.stays event (reply.Rel told)
-    (writer-released shape past home who request s told grant heard (writing_of plan) due.returns calm at due.shut w.writer))
+    (w.stays event (Reply.Rel answer)
+    (writer-released shape past home who request s answer grant heard (writing_of plan) due.returns calm at due.shut w.writer))
 
 -- the quarantine is gone
 gone-turn : (shape : Shape) (world : World) (who : Sid) (plan : Plan) (request : Wanted) (one : Given)
@@ -123,15 +123,15 @@ ended-turn shape world who plan request one quar how inner w due found mine answ
     let terms = terms_of shape home in
     let steps = steps_of home past in
     let s = step.Released key quar.sid token how in
-    let told = reply.Rel (rel.Released (evicted_by how)) in
-    let event = Stepped home who request s told in
+    let reply = Reply.Rel (rel.Released (evicted_by how)) in
+    let event = Stepped home who request s reply in
     let well : StandsWell terms steps key = stands_well shape world inner key in
     let C : ℕ → Type 0 = λ n. (closed n (event ∷ past) ≡ true) × (how ≡ ended.Keep → has_committed n (event ∷ past) ≡ false) in
     let shut : closed quar.sid.number past ≡ true = subst (λ n. closed n past ≡ true) (sym mine) due.shut in (
       returned-inner shape world who plan request one s (rel.Released (evicted_by how)) inner w due answers
           (subst C (sym mine) (
             closed-more who.number event past due.shut,
-            λ k. uncommitted-more who.number event past (late-stepped home who request s told past refl who.number due.shut) (kept k),
+            λ k. uncommitted-more who.number event past (late-stepped home who request s reply past refl who.number due.shut) (kept k),
           ))
           tt (λ k v. refl) (λ k t. refl) (leaves-ended shape past home key quar.sid token how quar (distinct terms steps key well) found shut),
       record { home = refl; good = good; own = λ by stands. sym (own_token terms steps key by token quar well stands found); no_commit = refl; no_end = refl },
@@ -143,13 +143,13 @@ due-mine : (shape : Shape) (world : World) (who : Sid) (plan : Plan) (request : 
     → IsDueNext shape world who.number request one → quar_of one.permit.key one.permit.token (steps_for shape world one.permit) ≡ Some quar
     → IsMine who.number plan one.permit quar
 due-mine shape world who plan request one quar inner w due found =
-    let heard = told_to who.number world.past in
+    let heard = heard_by who.number world.past in
     stands-mine shape world who plan (released heard) one.permit quar inner w (given-granted heard (released heard) one due.at) found
 
 due-was : (shape : Shape) (world : World) (who : Sid) (plan : Plan) (request : Wanted) (one : Given) → IsWriter shape world who.number plan
     → IsDueNext shape world who.number request one → list_any (grants one.permit) (steps_for shape world one.permit) ≡ true
 due-was shape world who plan request one w due =
-    let heard = told_to who.number world.past in
+    let heard = heard_by who.number world.past in
     (w.writer.stood (released heard) one.permit (given-granted heard (released heard) one due.at) (omega arith)).was
 
 -- a release that keeps, drops or shifts the value
@@ -235,9 +235,9 @@ replace-turn shape world who plan request one value stamp inner w due fits good 
 pub abort-turn : (shape : Shape) (world : World) (who : Sid) (said : Said) (plan : Plan) (one : Given)
     → Inner shape world → IsWriter shape world who.number plan
     → IsDueNext shape world who.number (wanted.Abort one.permit) one
-    → number_of (told_to who.number world.past) ≡ None → After shape world who said (wanted.Abort one.permit)
+    → number_of (heard_by who.number world.past) ≡ None → After shape world who said (wanted.Abort one.permit)
 abort-turn shape world who said plan one inner w due none =
-    let never : has_committed who.number world.past ≡ false = committed-told who.number world.past ∙ none-uncommitted (told_to who.number world.past) none in
+    let never : has_committed who.number world.past ≡ false = committed-heard who.number world.past ∙ none-uncommitted (heard_by who.number world.past) none in
     release-turn shape world who plan (wanted.Abort one.permit) one hows.Keep inner w due tt (λ quar e. never)
     (λ quar found m. subst (λ n. IsAmong n (ended_of world.past)) (sym m.own) (ended-among who.number world.past due.shut never))
 
@@ -297,11 +297,11 @@ writes-own shape world n number plan grant quar mode found m in_mode own = recor
 -- the value is shifted by what the session's commit adds to it
 pub apply-turn : (shape : Shape) (world : World) (who : Sid) (said : Said) (plan : Plan) (one : Given) (number : ℕ)
     → Inner shape world → IsWriter shape world who.number plan
-    → IsDueNext shape world who.number (wanted.Apply one.permit number) one → number_of (told_to who.number world.past) ≡ Some number → one.permit.mode ≡ Delta
+    → IsDueNext shape world who.number (wanted.Apply one.permit number) one → number_of (heard_by who.number world.past) ≡ Some number → one.permit.mode ≡ Delta
     → After shape world who said (wanted.Apply one.permit number)
 unfolding writes-own
-apply-turn shape world who said plan one number inner w due told delta =
-    let own = w.writer.numbered number told in
+apply-turn shape world who said plan one number inner w due same delta =
+    let own = w.writer.numbered number same in
     let grant = one.permit in
     release-turn shape world who plan (wanted.Apply grant number) one (hows.Shift number) inner w due delta (λ quar e. cc)
     (λ quar found m. record {
@@ -321,10 +321,10 @@ new-is key txn (Some old) value e = (old, refl, e)
 pub sar-turn : (shape : Shape) (world : World) (who : Sid) (said : Said) (plan : Plan) (one : Given) (number : ℕ)
     → Inner shape world → IsWriter shape world who.number plan
     → IsDueNext shape world who.number (wanted.Sar one.permit (new_value one.permit.key (changes_of plan) one.old) number) one
-    → number_of (told_to who.number world.past) ≡ Some number → one.permit.mode ≡ Refresh
+    → number_of (heard_by who.number world.past) ≡ Some number → one.permit.mode ≡ Refresh
     → After shape world who said (wanted.Sar one.permit (new_value one.permit.key (changes_of plan) one.old) number)
 unfolding writes-own
-sar-turn shape world who said plan one number inner w due told refresh = by (new_value grant.key (changes_of plan) one.old) refl
+sar-turn shape world who said plan one number inner w due same refresh = by (new_value grant.key (changes_of plan) one.old) refl
   where
     grant : Permit
     grant = one.permit
@@ -336,8 +336,8 @@ sar-turn shape world who said plan one number inner w due told refresh = by (new
         → Becomes shape world who request grant (put_step (terms_of shape (shard_of grant.key shape.shards)) (steps_for shape world grant) grant new number)
     by None e = dropped-turn shape world who plan request one inner w due
     by (Some value) e =
-        let own = w.writer.numbered number told in
-        let kept = w.writer.olds (released (told_to who.number world.past)) one due.at in
+        let own = w.writer.numbered number same in
+        let kept = w.writer.olds (released (heard_by who.number world.past)) one due.at in
         let new = new-is grant.key (changes_of plan) one.old value e in
         let R : List Change → Type 0 = λ txn. refreshed grant.key new.0.0 txn ≡ Some value in
         replace-turn shape world who plan request one value number inner w due refresh

@@ -27,50 +27,50 @@ use Rattle.key_shard.specs.Shards.{ShardView, past_of, is_out, rolled, stepped, 
 use Rattle.session_client.specs.declared.plans.Shape.{Shape}
 use Rattle.session_client.specs.declared.replies.Fault.TheVariants as faults
 use Rattle.session_client.specs.declared.replies.Reply.{Reply}
-use Rattle.session_client.specs.declared.replies.Reply.TheVariants as reply
+use Rattle.session_client.specs.declared.replies.Reply.TheVariants as Reply
 use Rattle.session_client.specs.declared.replies.Wanted.{Wanted}
 use Rattle.session_client.specs.declared.replies.Wanted.TheVariants as wanted
 use Rattle.executor.specs.OnShard.{is_spent, TellsGot, TellsSet, TellsQuarantine, TellsRelease, TellsPut, TellsRaise, TellsRenewal, MakesOnShard}
 use Rattle.executor.specs.Requests.{key_of}
 use Rattle.core_history.specs.Cores.{HasShards, HasHome}
 use Rattle.core_history.specs.Events.{Event, steps_of, now_of, reply_in}
-use Rattle.core_history.specs.Machine.{World, Failed, event_of, shown_on, stepped_on, terms_of, step_reply, put_step, raise_told, renewal_told}
+use Rattle.core_history.specs.Machine.{World, Failed, event_of, shown_on, stepped_on, terms_of, step_reply, put_step, raise_answer, renewal_answer}
 use Rattle.core_history.specs.Machine.{raise_shown, renewal_shown}
 use Rattle.core_history.specs.Requests.{MakesStep, IsOutWhereReleased, GoesOn, tells_memory}
 use Rattle.core_history.proofs.ShardsLemmas.{IsShardOf, grown, unrolled, shards_made, shard_found, home_read}
 
 -- what is told is what the step shows
-tells_got : (terms : Terms) (past : List Step) (s : Step) (answer : Got) → ShowsGot s answer → reply.Got answer ≡ step_reply terms past s
-tells_got terms past (step.Hit key sid floor value stamp) answer h = ap reply.Got h
-tells_got terms past (step.Lease key sid floor now token deadline) answer h = ap reply.Got h
-tells_got terms past (step.Again key sid floor now standing) answer h = ap reply.Got h
-tells_got terms past (step.Own key sid) answer h = ap reply.Got h
+tells_got : (terms : Terms) (past : List Step) (s : Step) (answer : Got) → ShowsGot s answer → Reply.Got answer ≡ step_reply terms past s
+tells_got terms past (step.Hit key sid floor value stamp) answer h = ap Reply.Got h
+tells_got terms past (step.Lease key sid floor now token deadline) answer h = ap Reply.Got h
+tells_got terms past (step.Again key sid floor now standing) answer h = ap Reply.Got h
+tells_got terms past (step.Own key sid) answer h = ap Reply.Got h
 tells_got terms past other answer h = absurd h
 
-tells_set : (terms : Terms) (past : List Step) (s : Step) (answer : SetAnswer) → ShowsSet s answer → reply.Set answer ≡ step_reply terms past s
-tells_set terms past (step.Stored key token now value stamp evicted) answer h = ap reply.Set h
-tells_set terms past (step.Void key token now) answer h = ap reply.Set h
+tells_set : (terms : Terms) (past : List Step) (s : Step) (answer : SetAnswer) → ShowsSet s answer → Reply.Set answer ≡ step_reply terms past s
+tells_set terms past (step.Stored key token now value stamp evicted) answer h = ap Reply.Set h
+tells_set terms past (step.Void key token now) answer h = ap Reply.Set h
 tells_set terms past other answer h = absurd h
 
 tells_quarantine : (terms : Terms) (past : List Step) (s : Step) (answer : QAnswer)
-    → ShowsQuarantine terms past s answer → reply.Quar answer ≡ step_reply terms past s
-tells_quarantine terms past (step.Granted key sid mode shift now token deadline) answer h = ap reply.Quar h
-tells_quarantine terms past (step.Held key sid mode) answer h = ap reply.Quar h
-tells_quarantine terms past (step.Refused key sid mode holder held) answer h = ap reply.Quar h
+    → ShowsQuarantine terms past s answer → Reply.Quar answer ≡ step_reply terms past s
+tells_quarantine terms past (step.Granted key sid mode shift now token deadline) answer h = ap Reply.Quar h
+tells_quarantine terms past (step.Held key sid mode) answer h = ap Reply.Quar h
+tells_quarantine terms past (step.Refused key sid mode holder held) answer h = ap Reply.Quar h
 tells_quarantine terms past other answer h = absurd h
 
-tells_release : (terms : Terms) (past : List Step) (s : Step) (answer : Rel) → ShowsRelease s answer → reply.Rel answer ≡ step_reply terms past s
-tells_release terms past (step.Released key sid token how) answer h = ap reply.Rel h
-tells_release terms past (step.Gone key sid token) answer h = ap reply.Rel h
+tells_release : (terms : Terms) (past : List Step) (s : Step) (answer : Rel) → ShowsRelease s answer → Reply.Rel answer ≡ step_reply terms past s
+tells_release terms past (step.Released key sid token how) answer h = ap Reply.Rel h
+tells_release terms past (step.Gone key sid token) answer h = ap Reply.Rel h
 tells_release terms past other answer h = absurd h
 
-tells_raise : (past : List Step) (grant : Permit) (s : Step) (answer : Raising) → ShowsRaise past grant s answer → answer ≡ raise_told grant past s
+tells_raise : (past : List Step) (grant : Permit) (s : Step) (answer : Raising) → ShowsRaise past grant s answer → answer ≡ raise_answer grant past s
 tells_raise past grant (step.Raised key sid token) answer h = h
 tells_raise past grant (step.Shared key sid token holder) answer h = h
 tells_raise past grant (step.Gone key sid token) answer h = h
 tells_raise past grant other answer h = absurd h
 
-tells_renewal : (s : Step) (answer : Renewal) → ShowsRenewal s answer → answer ≡ renewal_told s
+tells_renewal : (s : Step) (answer : Renewal) → ShowsRenewal s answer → answer ≡ renewal_answer s
 tells_renewal (step.Renewed key sid token now deadline) answer h = h
 tells_renewal (step.Gone key sid token) answer h = h
 tells_renewal other answer h = absurd h
@@ -91,12 +91,12 @@ stepped_whole shape past key place shard new s is grew = grew ∙ ap (λ (v : Sh
 -- the shard of the key made the step, and told what is shown of it
 shown_made : (shape : Shape) (world : World) (who : Sid) (request : Wanted)
     (key : QKey) (f : Terms → List Step → Step) (shows : Terms → List Step → Step → Reply)
-    (shards : List ShardView) (place : ℕ) (shard new : ShardView) (told : Reply) →
+    (shards : List ShardView) (place : ℕ) (shard new : ShardView) (reply : Reply) →
     event_of shape world who request Failed ≡ shown_on shape world.past who request key f shows
     → HasShards shards shape world.past → IsShardOf shape world.past key place shard →
-    new ≡ grown shard request (f shard.terms (past_of shard)) → told ≡ shows shard.terms (past_of shard) (f shard.terms (past_of shard))
-    → MakesStep shape world who request (set shards place new) (Ok told)
-shown_made shape world who request key f shows shards place shard new told event has is grew tells =
+    new ≡ grown shard request (f shard.terms (past_of shard)) → reply ≡ shows shard.terms (past_of shard) (f shard.terms (past_of shard))
+    → MakesStep shape world who request (set shards place new) (Ok reply)
+shown_made shape world who request key f shows shards place shard new reply event has is grew tells =
     let g : Terms → List Step → Reply = λ terms steps. shows terms steps (f terms steps) in
     let P : Event → Type 0 = λ e. HasShards (set shards place new) shape (e ∷ world.past) in (
       tells ∙ shown_is shape world.past key place shard g is
@@ -105,30 +105,30 @@ shown_made shape world who request key f shows shards place shard new told event
     )
 
 step_made : (shape : Shape) (world : World) (who : Sid) (request : Wanted)
-    (key : QKey) (f : Terms → List Step → Step) (shards : List ShardView) (place : ℕ) (shard new : ShardView) (told : Reply) →
+    (key : QKey) (f : Terms → List Step → Step) (shards : List ShardView) (place : ℕ) (shard new : ShardView) (reply : Reply) →
     event_of shape world who request Failed ≡ stepped_on shape world.past who request key f
     → HasShards shards shape world.past → IsShardOf shape world.past key place shard →
-    new ≡ grown shard request (f shard.terms (past_of shard)) → told ≡ step_reply shard.terms (past_of shard) (f shard.terms (past_of shard))
-    → MakesStep shape world who request (set shards place new) (Ok told)
-step_made shape world who request key f shards place shard new told event has is grew tells =
-    shown_made shape world who request key f step_reply shards place shard new told event has is grew tells
+    new ≡ grown shard request (f shard.terms (past_of shard)) → reply ≡ step_reply shard.terms (past_of shard) (f shard.terms (past_of shard))
+    → MakesStep shape world who request (set shards place new) (Ok reply)
+step_made shape world who request key f shards place shard new reply event has is grew tells =
+    shown_made shape world who request key f step_reply shards place shard new reply event has is grew tells
 
 -- so it is where the step goes by the time
 timely : (shape : Shape) (world : World) (who : Sid) (request : Wanted) (key : QKey) (f : ℕ → Terms → List Step → Step)
-    (now : ℕ) (shards : List ShardView) (place : ℕ) (shard new : ShardView) (told : Reply) → now ≡ now_of world.past →
+    (now : ℕ) (shards : List ShardView) (place : ℕ) (shard new : ShardView) (reply : Reply) → now ≡ now_of world.past →
     event_of shape world who request Failed ≡ stepped_on shape world.past who request key (f (now_of world.past))
     → HasShards shards shape world.past → IsShardOf shape world.past key place shard →
-    new ≡ grown shard request (f now shard.terms (past_of shard)) → told ≡ step_reply shard.terms (past_of shard) (f now shard.terms (past_of shard))
-    → MakesStep shape world who request (set shards place new) (Ok told)
-timely shape world who request key f now shards place shard new told time event has is grew tells =
-    step_made shape world who request key (f now) shards place shard new told
+    new ≡ grown shard request (f now shard.terms (past_of shard)) → reply ≡ step_reply shard.terms (past_of shard) (f now shard.terms (past_of shard))
+    → MakesStep shape world who request (set shards place new) (Ok reply)
+timely shape world who request key f now shards place shard new reply time event has is grew tells =
+    step_made shape world who request key (f now) shards place shard new reply
     (event ∙ ap (λ (n : ℕ). stepped_on shape world.past who request key (f n)) (sym time)) has is grew tells
 
 -- What came of a request on a shard: it was made, and the shard is the one after that; or memory ran out, and the shard is as before.
 abbrev Became : {A : Type 0} → (A → Reply) → (A → Type 0) → ShardView → ShardView → ShardView → Reply → Type 0
-Became {A} variant shows old next new told =
-    ((answer : A) × (told ≡ variant answer) × (tells_memory told ≡ false) × (new ≡ next) × shows answer)
-    ⊎ ((tells_memory told ≡ true) × (new ≡ old))
+Became {A} variant shows old next new reply =
+    ((answer : A) × (reply ≡ variant answer) × (tells_memory reply ≡ false) × (new ≡ next) × shows answer)
+    ⊎ ((tells_memory reply ≡ true) × (new ≡ old))
 
 -- there is a token left
 unspent : (draw : Bool) (next : ℕ) → next < 2 ^ 64 - 1 → (draw && (next == 2 ^ 64 - 1)) ≡ true → ⊥
@@ -140,56 +140,56 @@ of_out : {X : Type 0} (Y : Type 0) (b : Bool) → b ≡ true → MatchBool b X Y
 of_out Y true e h = h
 of_out Y false e h = absurd (false≢true e)
 
-got_became : (old new : ShardView) (s : Step) (told : Reply) → next_token old.terms (past_of old) < 2 ^ 64 - 1 → TellsGot old s new told
-    → Became reply.Got (ShowsGot s) old (stepped (rolled old) s) new told
-got_became old new s (reply.Got got) below h = inl (got, refl, refl, h.0, h.1)
-got_became old new s (reply.Fault faults.Memory) below h = inr (refl, h.0)
-got_became old new s (reply.Fault faults.Spent) below h = absurd (unspent (draws s) (next_token old.terms (past_of old)) below h.1)
-got_became old new s (reply.Fault faults.Keep) below h = absurd h.1
+got_became : (old new : ShardView) (s : Step) (reply : Reply) → next_token old.terms (past_of old) < 2 ^ 64 - 1 → TellsGot old s new reply
+    → Became Reply.Got (ShowsGot s) old (stepped (rolled old) s) new reply
+got_became old new s (Reply.Got got) below h = inl (got, refl, refl, h.0, h.1)
+got_became old new s (Reply.Fault faults.Memory) below h = inr (refl, h.0)
+got_became old new s (Reply.Fault faults.Spent) below h = absurd (unspent (draws s) (next_token old.terms (past_of old)) below h.1)
+got_became old new s (Reply.Fault faults.Keep) below h = absurd h.1
 got_became old new s other below h = absurd h
 
-quarantine_became : (old new : ShardView) (s : Step) (told : Reply) → next_token old.terms (past_of old) < 2 ^ 64 - 1 → TellsQuarantine old s new told
-    → Became reply.Quar (ShowsQuarantine old.terms (past_of old) s) old (stepped (rolled old) s) new told
-quarantine_became old new s (reply.Quar answer) below h = inl (answer, refl, refl, h.0, h.1)
-quarantine_became old new s (reply.Fault faults.Memory) below h = inr (refl, h.0)
-quarantine_became old new s (reply.Fault faults.Spent) below h = absurd (unspent (draws s) (next_token old.terms (past_of old)) below h.1)
-quarantine_became old new s (reply.Fault faults.Keep) below h = absurd h.1
+quarantine_became : (old new : ShardView) (s : Step) (reply : Reply) → next_token old.terms (past_of old) < 2 ^ 64 - 1 → TellsQuarantine old s new reply
+    → Became Reply.Quar (ShowsQuarantine old.terms (past_of old) s) old (stepped (rolled old) s) new reply
+quarantine_became old new s (Reply.Quar answer) below h = inl (answer, refl, refl, h.0, h.1)
+quarantine_became old new s (Reply.Fault faults.Memory) below h = inr (refl, h.0)
+quarantine_became old new s (Reply.Fault faults.Spent) below h = absurd (unspent (draws s) (next_token old.terms (past_of old)) below h.1)
+quarantine_became old new s (Reply.Fault faults.Keep) below h = absurd h.1
 quarantine_became old new s other below h = absurd h
 
-set_became : (old new : ShardView) (s : Step) (told : Reply) → TellsSet old s new told → Became reply.Set (ShowsSet s) old (stepped (rolled old) s) new told
-set_became old new s (reply.Set answer) h = inl (answer, refl, refl, h.0, h.1)
-set_became old new s (reply.Fault faults.Memory) h = inr (refl, h.0)
-set_became old new s (reply.Fault faults.Spent) h = absurd cc
-set_became old new s (reply.Fault faults.Keep) h = absurd cc
+set_became : (old new : ShardView) (s : Step) (reply : Reply) → TellsSet old s new reply → Became Reply.Set (ShowsSet s) old (stepped (rolled old) s) new reply
+set_became old new s (Reply.Set answer) h = inl (answer, refl, refl, h.0, h.1)
+set_became old new s (Reply.Fault faults.Memory) h = inr (refl, h.0)
+set_became old new s (Reply.Fault faults.Spent) h = absurd cc
+set_became old new s (Reply.Fault faults.Keep) h = absurd cc
 set_became old new s other h = absurd h
 
-release_became : (old new : ShardView) (grant : Permit) (s : Step) (told : Reply) → is_out old grant ≡ true → TellsRelease old grant s new told
-    → Became reply.Rel (ShowsRelease s) old (returned old grant s) new told
-release_became old new grant s (reply.Rel answer) out h = let made = of_out _ (is_out old grant) out h in inl (answer, refl, refl, made.0, made.1)
+release_became : (old new : ShardView) (grant : Permit) (s : Step) (reply : Reply) → is_out old grant ≡ true → TellsRelease old grant s new reply
+    → Became Reply.Rel (ShowsRelease s) old (returned old grant s) new reply
+release_became old new grant s (Reply.Rel answer) out h = let made = of_out _ (is_out old grant) out h in inl (answer, refl, refl, made.0, made.1)
 release_became old new grant s other out h = absurd h
 
-put_became : (old new : ShardView) (grant : Permit) (s : Step) (told : Reply) → is_out old grant ≡ true → TellsPut old grant s new told
-    → Became reply.Rel (ShowsRelease s) old (returned old grant s) new told
-put_became old new grant s (reply.Rel answer) out h = let made = of_out _ (is_out old grant) out h in inl (answer, refl, refl, made.0, made.1)
-put_became old new grant s (reply.SarBack back) out h = inr (refl, h.0)
+put_became : (old new : ShardView) (grant : Permit) (s : Step) (reply : Reply) → is_out old grant ≡ true → TellsPut old grant s new reply
+    → Became Reply.Rel (ShowsRelease s) old (returned old grant s) new reply
+put_became old new grant s (Reply.Rel answer) out h = let made = of_out _ (is_out old grant) out h in inl (answer, refl, refl, made.0, made.1)
+put_became old new grant s (Reply.SarBack back) out h = inr (refl, h.0)
 put_became old new grant s other out h = absurd h
 
-raise_became : (old new : ShardView) (grant : Permit) (s : Step) (told : Reply) → is_out old grant ≡ true → TellsRaise old grant s new told
-    → Became reply.Raise (ShowsRaise (past_of old) grant s) old (after_raise old grant s) new told
-raise_became old new grant s (reply.Raise answer) out h = let made = of_out _ (is_out old grant) out h in inl (answer, refl, refl, made.0, made.1)
-raise_became old new grant s (reply.RaiseBack back) out h = inr (refl, h.0)
+raise_became : (old new : ShardView) (grant : Permit) (s : Step) (reply : Reply) → is_out old grant ≡ true → TellsRaise old grant s new reply
+    → Became Reply.Raise (ShowsRaise (past_of old) grant s) old (after_raise old grant s) new reply
+raise_became old new grant s (Reply.Raise answer) out h = let made = of_out _ (is_out old grant) out h in inl (answer, refl, refl, made.0, made.1)
+raise_became old new grant s (Reply.RaiseBack back) out h = inr (refl, h.0)
 raise_became old new grant s other out h = absurd h
 
 -- what is told of a renewal of this grant
 abbrev renewed_as : Permit → Renewal → Reply
-renewed_as grant answer = reply.Renew grant (Some answer)
+renewed_as grant answer = Reply.Renew grant (Some answer)
 
-renewal_became : (old new : ShardView) (grant : Permit) (s : Step) (told : Reply) → is_out old grant ≡ true → TellsRenewal old grant s new told
-    → Became (renewed_as grant) (ShowsRenewal s) old (stepped old s) new told
-renewal_became old new grant s (reply.Renew back (Some answer)) out h =
+renewal_became : (old new : ShardView) (grant : Permit) (s : Step) (reply : Reply) → is_out old grant ≡ true → TellsRenewal old grant s new reply
+    → Became (renewed_as grant) (ShowsRenewal s) old (stepped old s) new reply
+renewal_became old new grant s (Reply.Renew back (Some answer)) out h =
     let made = of_out _ (is_out old grant) out h.1 in
-    inl (answer, ap (λ (p : Permit). reply.Renew p (Some answer)) h.0, refl, made.0, made.1)
-renewal_became old new grant s (reply.Renew back None) out h = inr (refl, h.1)
+    inl (answer, ap (λ (p : Permit). Reply.Renew p (Some answer)) h.0, refl, made.0, made.1)
+renewal_became old new grant s (Reply.Renew back None) out h = inr (refl, h.1)
 renewal_became old new grant s other out h = absurd h
 
 -- a list stays where a place is written with what it has
@@ -200,18 +200,18 @@ set_same {X} (y ∷ xs) (suc place) x is = ap (λ (l : List X). y ∷ l) (set_sa
 
 -- the turn is the event where the request was made, and leaves the shards where memory ran out
 made_by : {A : Type 0} (variant : A → Reply) (shows : A → Type 0) (shape : Shape) (world : World) (who : Sid) (request : Wanted) (shards : List ShardView)
-    (place : ℕ) (shard next new : ShardView) (told : Reply) (result : Result Reply Memory) → HasShards shards shape world.past
+    (place : ℕ) (shard next new : ShardView) (reply : Reply) (result : Result Reply Memory) → HasShards shards shape world.past
     → slice_get shards place ≡ Some shard → ((answer : A) → shows answer → MakesStep shape world who request (set shards place next) (Ok (variant answer)))
-    → Became variant shows shard next new told → GoesOn told result → MakesStep shape world who request (set shards place new) result
-made_by variant shows shape world who request shards place shard next new told (Ok kept) has there made (inl h) goes =
+    → Became variant shows shard next new reply → GoesOn reply result → MakesStep shape world who request (set shards place new) result
+made_by variant shows shape world who request shards place shard next new reply (Ok kept) has there made (inl h) goes =
     let P : Reply → Type 0 = λ r. MakesStep shape world who request (set shards place new) (Ok r) in
     let Q : ShardView → Type 0 = λ v. MakesStep shape world who request (set shards place v) (Ok (variant h.0)) in
     subst P (sym (goes.0 ∙ h.1)) (subst Q (sym h.3) (made h.0 h.4))
-made_by variant shows shape world who request shards place shard next new told (Err memory) has there made (inl h) goes =
+made_by variant shows shape world who request shards place shard next new reply (Err memory) has there made (inl h) goes =
     absurd (false≢true (sym h.2 ∙ goes))
-made_by variant shows shape world who request shards place shard next new told (Ok kept) has there made (inr h) goes =
+made_by variant shows shape world who request shards place shard next new reply (Ok kept) has there made (inr h) goes =
     absurd (false≢true (sym goes.1 ∙ h.0))
-made_by variant shows shape world who request shards place shard next new told (Err memory) has there made (inr h) goes =
+made_by variant shows shape world who request shards place shard next new reply (Err memory) has there made (inr h) goes =
     let P : List ShardView → Type 0 = λ xs. HasShards xs shape world.past in
     let Q : ShardView → Type 0 = λ v. HasShards (set shards place v) shape world.past in
     subst Q (sym h.1) (subst P (sym (set_same shards place shard there)) has)
@@ -246,10 +246,10 @@ raise_grown shard grant other = refl
 
 -- what the executor made of a shard is the event of the request
 pub request_made : (shape : Shape) (world : World) (who : Sid) (request : Wanted) (now : ℕ) (shards : List ShardView) (place : ℕ)
-    (shard new : ShardView) (told : Reply) (result : Result Reply Memory) → IsAsked shards request place shard → IsOutWhereReleased shards request
-    → now ≡ now_of world.past → HasShards shards shape world.past → MakesOnShard shard who request now new told → GoesOn told result
+    (shard new : ShardView) (reply : Reply) (result : Result Reply Memory) → IsAsked shards request place shard → IsOutWhereReleased shards request
+    → now ≡ now_of world.past → HasShards shards shape world.past → MakesOnShard shard who request now new reply → GoesOn reply result
     → MakesStep shape world who request (set shards place new) result
-request_made shape world who request now shards place shard new told result asked out time has makes goes =
+request_made shape world who request now shards place shard new reply result asked out time has makes goes =
     by request asked out makes
   where
     past : List Step
@@ -261,98 +261,98 @@ request_made shape world who request now shards place shard new told result aske
     home : (request : Wanted) (key : QKey) → IsAsked shards request place shard → key_of request ≡ Some key → IsShardOf shape world.past key place shard
     home request key asked e = shard_found shape world.past key shards place shard has (asked.at key e) (asked.found key e)
 
-    by : (request : Wanted) → IsAsked shards request place shard → IsOutWhereReleased shards request → MakesOnShard shard who request now new told
+    by : (request : Wanted) → IsAsked shards request place shard → IsOutWhereReleased shards request → MakesOnShard shard who request now new reply
         → MakesStep shape world who request (set shards place new) result
     by (wanted.Get key floor) asked out makes =
         let w = wanted.Get key floor in
         let is = home w key asked refl in
         let f : ℕ → Terms → List Step → Step = λ n terms steps. get_step terms steps key who floor n in
         let s = f now shard.terms past in
-        made_by reply.Got (ShowsGot s) shape world who w shards place shard (stepped (rolled shard) s) new told result has asked.there
-        (λ answer shows. timely shape world who w key f now shards place shard (stepped (rolled shard) s) (reply.Got answer) time refl has is
-        (whole key s is) (tells_got shard.terms past s answer shows)) (got_became shard new s told asked.left makes) goes
+        made_by Reply.Got (ShowsGot s) shape world who w shards place shard (stepped (rolled shard) s) new reply result has asked.there
+        (λ answer shows. timely shape world who w key f now shards place shard (stepped (rolled shard) s) (Reply.Got answer) time refl has is
+        (whole key s is) (tells_got shard.terms past s answer shows)) (got_became shard new s reply asked.left makes) goes
     by (wanted.Set key token value stamp) asked out makes =
         let w = wanted.Set key token value stamp in
         let is = home w key asked refl in
         let f : ℕ → Terms → List Step → Step = λ n terms steps. set_step terms steps key token value stamp n in
         let s = f now shard.terms past in
-        made_by reply.Set (ShowsSet s) shape world who w shards place shard (stepped (rolled shard) s) new told result has asked.there
-        (λ answer shows. timely shape world who w key f now shards place shard (stepped (rolled shard) s) (reply.Set answer) time refl has is
-        (whole key s is) (tells_set shard.terms past s answer shows)) (set_became shard new s told makes) goes
+        made_by Reply.Set (ShowsSet s) shape world who w shards place shard (stepped (rolled shard) s) new reply result has asked.there
+        (λ answer shows. timely shape world who w key f now shards place shard (stepped (rolled shard) s) (Reply.Set answer) time refl has is
+        (whole key s is) (tells_set shard.terms past s answer shows)) (set_became shard new s reply makes) goes
     by (wanted.QaReg key) asked out makes =
         let w = wanted.QaReg key in
         let is = home w key asked refl in
         let f : ℕ → Terms → List Step → Step = λ n terms steps. quarantine_step terms steps key who Invalidate (pos 0) n in
         let s = f now shard.terms past in
-        made_by reply.Quar (ShowsQuarantine shard.terms past s) shape world who w shards place shard (stepped (rolled shard) s) new told result has asked.there
-        (λ answer shows. timely shape world who w key f now shards place shard (stepped (rolled shard) s) (reply.Quar answer) time refl has is
-        (whole key s is) (tells_quarantine shard.terms past s answer shows)) (quarantine_became shard new s told asked.left makes) goes
+        made_by Reply.Quar (ShowsQuarantine shard.terms past s) shape world who w shards place shard (stepped (rolled shard) s) new reply result has asked.there
+        (λ answer shows. timely shape world who w key f now shards place shard (stepped (rolled shard) s) (Reply.Quar answer) time refl has is
+        (whole key s is) (tells_quarantine shard.terms past s answer shows)) (quarantine_became shard new s reply asked.left makes) goes
     by (wanted.QaRead key) asked out makes =
         let w = wanted.QaRead key in
         let is = home w key asked refl in
         let f : ℕ → Terms → List Step → Step = λ n terms steps. quarantine_step terms steps key who Refresh (pos 0) n in
         let s = f now shard.terms past in
-        made_by reply.Quar (ShowsQuarantine shard.terms past s) shape world who w shards place shard (stepped (rolled shard) s) new told result has asked.there
-        (λ answer shows. timely shape world who w key f now shards place shard (stepped (rolled shard) s) (reply.Quar answer) time refl has is
-        (whole key s is) (tells_quarantine shard.terms past s answer shows)) (quarantine_became shard new s told asked.left makes) goes
+        made_by Reply.Quar (ShowsQuarantine shard.terms past s) shape world who w shards place shard (stepped (rolled shard) s) new reply result has asked.there
+        (λ answer shows. timely shape world who w key f now shards place shard (stepped (rolled shard) s) (Reply.Quar answer) time refl has is
+        (whole key s is) (tells_quarantine shard.terms past s answer shows)) (quarantine_became shard new s reply asked.left makes) goes
     by (wanted.Delta key more) asked out makes =
         let w = wanted.Delta key more in
         let is = home w key asked refl in
         let f : ℕ → Terms → List Step → Step = λ n terms steps. quarantine_step terms steps key who Delta more n in
         let s = f now shard.terms past in
-        made_by reply.Quar (ShowsQuarantine shard.terms past s) shape world who w shards place shard (stepped (rolled shard) s) new told result has asked.there
-        (λ answer shows. timely shape world who w key f now shards place shard (stepped (rolled shard) s) (reply.Quar answer) time refl has is
-        (whole key s is) (tells_quarantine shard.terms past s answer shows)) (quarantine_became shard new s told asked.left makes) goes
+        made_by Reply.Quar (ShowsQuarantine shard.terms past s) shape world who w shards place shard (stepped (rolled shard) s) new reply result has asked.there
+        (λ answer shows. timely shape world who w key f now shards place shard (stepped (rolled shard) s) (Reply.Quar answer) time refl has is
+        (whole key s is) (tells_quarantine shard.terms past s answer shows)) (quarantine_became shard new s reply asked.left makes) goes
     by (wanted.Dar grant) asked out makes =
         let w = wanted.Dar grant in
         let s = release_step past grant how.Drop in
-        made_by reply.Rel (ShowsRelease s) shape world who w shards place shard (returned shard grant s) new told result has asked.there
+        made_by Reply.Rel (ShowsRelease s) shape world who w shards place shard (returned shard grant s) new reply result has asked.there
         (λ answer shows. step_made shape world who w grant.key (λ terms steps. release_step steps grant how.Drop) shards place shard (returned shard grant s)
-        (reply.Rel answer) refl has (home w grant.key asked refl) refl (tells_release shard.terms past s answer shows))
-        (release_became shard new grant s told (out shard (asked.found grant.key refl)) makes) goes
+        (Reply.Rel answer) refl has (home w grant.key asked refl) refl (tells_release shard.terms past s answer shows))
+        (release_became shard new grant s reply (out shard (asked.found grant.key refl)) makes) goes
     by (wanted.Abort grant) asked out makes =
         let w = wanted.Abort grant in
         let s = release_step past grant how.Keep in
-        made_by reply.Rel (ShowsRelease s) shape world who w shards place shard (returned shard grant s) new told result has asked.there
+        made_by Reply.Rel (ShowsRelease s) shape world who w shards place shard (returned shard grant s) new reply result has asked.there
         (λ answer shows. step_made shape world who w grant.key (λ terms steps. release_step steps grant how.Keep) shards place shard (returned shard grant s)
-        (reply.Rel answer) refl has (home w grant.key asked refl) refl (tells_release shard.terms past s answer shows))
-        (release_became shard new grant s told (out shard (asked.found grant.key refl)) makes) goes
+        (Reply.Rel answer) refl has (home w grant.key asked refl) refl (tells_release shard.terms past s answer shows))
+        (release_became shard new grant s reply (out shard (asked.found grant.key refl)) makes) goes
     by (wanted.Apply grant stamp) asked out makes =
         let w = wanted.Apply grant stamp in
         let s = release_step past grant (how.Shift stamp) in
-        made_by reply.Rel (ShowsRelease s) shape world who w shards place shard (returned shard grant s) new told result has asked.there
+        made_by Reply.Rel (ShowsRelease s) shape world who w shards place shard (returned shard grant s) new reply result has asked.there
         (λ answer shows. step_made shape world who w grant.key (λ terms steps. release_step steps grant (how.Shift stamp)) shards place shard
-        (returned shard grant s) (reply.Rel answer) refl has (home w grant.key asked refl) refl (tells_release shard.terms past s answer shows))
-        (release_became shard new grant s told (out shard (asked.found grant.key refl)) makes) goes
+        (returned shard grant s) (Reply.Rel answer) refl has (home w grant.key asked refl) refl (tells_release shard.terms past s answer shows))
+        (release_became shard new grant s reply (out shard (asked.found grant.key refl)) makes) goes
     by (wanted.Sar grant None stamp) asked out makes =
         let w = wanted.Sar grant None stamp in
         let s = release_step past grant how.Drop in
-        made_by reply.Rel (ShowsRelease s) shape world who w shards place shard (returned shard grant s) new told result has asked.there
+        made_by Reply.Rel (ShowsRelease s) shape world who w shards place shard (returned shard grant s) new reply result has asked.there
         (λ answer shows. step_made shape world who w grant.key (λ terms steps. put_step terms steps grant None stamp) shards place shard
-        (returned shard grant s) (reply.Rel answer) refl has (home w grant.key asked refl) refl (tells_release shard.terms past s answer shows))
-        (release_became shard new grant s told (out shard (asked.found grant.key refl)) makes) goes
+        (returned shard grant s) (Reply.Rel answer) refl has (home w grant.key asked refl) refl (tells_release shard.terms past s answer shows))
+        (release_became shard new grant s reply (out shard (asked.found grant.key refl)) makes) goes
     by (wanted.Sar grant (Some value) stamp) asked out makes =
         let w = wanted.Sar grant (Some value) stamp in
         let s = replace_step shard.terms past grant value stamp in
-        made_by reply.Rel (ShowsRelease s) shape world who w shards place shard (returned shard grant s) new told result has asked.there
+        made_by Reply.Rel (ShowsRelease s) shape world who w shards place shard (returned shard grant s) new reply result has asked.there
         (λ answer shows. step_made shape world who w grant.key (λ terms steps. put_step terms steps grant (Some value) stamp) shards place shard
-        (returned shard grant s) (reply.Rel answer) refl has (home w grant.key asked refl) refl (tells_release shard.terms past s answer shows))
-        (put_became shard new grant s told (out shard (asked.found grant.key refl)) makes) goes
+        (returned shard grant s) (Reply.Rel answer) refl has (home w grant.key asked refl) refl (tells_release shard.terms past s answer shows))
+        (put_became shard new grant s reply (out shard (asked.found grant.key refl)) makes) goes
     by (wanted.Raise grant) asked out makes =
         let w = wanted.Raise grant in
         let s = raise_step past grant in
-        made_by reply.Raise (ShowsRaise past grant s) shape world who w shards place shard (after_raise shard grant s) new told result has asked.there
+        made_by Reply.Raise (ShowsRaise past grant s) shape world who w shards place shard (after_raise shard grant s) new reply result has asked.there
         (λ answer shows. shown_made shape world who w grant.key (λ terms steps. raise_step steps grant) (raise_shown grant) shards place shard
-        (after_raise shard grant s) (reply.Raise answer) refl has (home w grant.key asked refl) (raise_grown shard grant s)
-        (ap reply.Raise (tells_raise past grant s answer shows)))
-        (raise_became shard new grant s told (out shard (asked.found grant.key refl)) makes) goes
+        (after_raise shard grant s) (Reply.Raise answer) refl has (home w grant.key asked refl) (raise_grown shard grant s)
+        (ap Reply.Raise (tells_raise past grant s answer shows)))
+        (raise_became shard new grant s reply (out shard (asked.found grant.key refl)) makes) goes
     by (wanted.Renew grant) asked out makes =
         let w = wanted.Renew grant in
         let f : ℕ → Terms → List Step → Step = λ n terms steps. renew_step terms steps grant n in
         let s = f now shard.terms past in
-        made_by (renewed_as grant) (ShowsRenewal s) shape world who w shards place shard (stepped shard s) new told result has asked.there
+        made_by (renewed_as grant) (ShowsRenewal s) shape world who w shards place shard (stepped shard s) new reply result has asked.there
         (λ answer shows. shown_made shape world who w grant.key (f now) (renewal_shown grant) shards place shard (stepped shard s) (renewed_as grant answer)
         (ap (λ (n : ℕ). shown_on shape world.past who w grant.key (f n) (renewal_shown grant)) (sym time)) has (home w grant.key asked refl) refl
         (ap (renewed_as grant) (tells_renewal s answer shows)))
-        (renewal_became shard new grant s told (out shard (asked.found grant.key refl)) makes) goes
+        (renewal_became shard new grant s reply (out shard (asked.found grant.key refl)) makes) goes
     by other asked out makes = absurd makes

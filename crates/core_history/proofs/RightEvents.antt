@@ -34,14 +34,14 @@ use Rattle.expiry_sweeper.specs.declared.replies.SweepReply.{SweepReply}
 use Rattle.expiry_sweeper.specs.declared.replies.SweepWanted.{SweepWanted}
 use Rattle.session_client.specs.declared.plans.Shape.{Shape}
 use Rattle.session_client.specs.declared.replies.Reply.{Reply}
-use Rattle.session_client.specs.declared.replies.Reply.TheVariants as reply
+use Rattle.session_client.specs.declared.replies.Reply.TheVariants as Reply
 use Rattle.session_client.specs.declared.replies.Wanted.{Wanted}
 use Rattle.session_client.specs.declared.replies.Wanted.TheVariants as wanted
 use Rattle.core_history.specs.Events.{Event, Stepped, Called, Ticked, Swept, steps_of, log_of, known_of}
 use Rattle.core_history.specs.Facts.{leases, answers_in, answers_under, Found, grants_as, found_at}
 use Rattle.core_history.specs.Truth.{IsTrueEvent}
 use Rattle.core_history.proofs.ExclusiveLemmas.{WritesAlone, writes_alone, grants-on}
-use Rattle.core_history.proofs.GoodEvents.{IsTold, PutsNew, ShiftsOwn, IsGoodStep, IsGoodSweep, IsGoodEvent}
+use Rattle.core_history.proofs.GoodEvents.{IsAmong, PutsNew, ShiftsOwn, IsGoodStep, IsGoodSweep, IsGoodEvent}
 use Rattle.core_history.proofs.HeldEvents.{steps_at, IsWithin, IsHome, Holds, IsSamePast, same-called, same-ticked, same-swept, same-dropped}
 use Rattle.core_history.proofs.ListLemmas.{choose, every-append, every-weaker, every-any, and_elim, not_true}
 use Rattle.core_history.proofs.TrueLogs.{answer_after, IsTrueLog, leaves_untouched, makes_refreshed, makes_shifted}
@@ -115,10 +115,10 @@ module _ (opening : Tables) (log : List Commit) where
   entry_after key past (step.Shared on sid token holder) good h = h
   entry_after key past (step.Renewed on sid token now deadline) good h = h
 
-told_right : (P : Answer → Type 0) (answered : Answer) (answers : List Answer) → AllByRecursion P answers → IsTold answered answers → P answered
-told_right P answered (first ∷ answers) h (inl e) = subst P e h.0
-told_right P answered (first ∷ answers) h (inr t) = told_right P answered answers h.1 t
-told_right P answered [] h t = absurd t
+right_answer : (P : Answer → Type 0) (answered : Answer) (answers : List Answer) → AllByRecursion P answers → IsAmong answered answers → P answered
+right_answer P answered (first ∷ answers) h (inl e) = subst P e h.0
+right_answer P answered (first ∷ answers) h (inr t) = right_answer P answered answers h.1 t
+right_answer P answered [] h t = absurd t
 
 -- what a session writes under the quarantine that has the key for itself is right
 module _ (opening : Tables) (shape : Shape) (past : List Event)
@@ -194,7 +194,7 @@ module _ (opening : Tables) (shape : Shape) (past : List Event)
   right_step : (who : Sid) (s : Step) → IsGoodStep past (steps_at shape past (key_of s)) who s
       → IsRightStep opening (log_of past) (steps_at shape past (key_of s)) s
   right_step who (step.Stored on token now value stamp evicted) good =
-      let is = told_right (IsRightAnswer opening (log_of past) on) good.answered _ (rights.answers on token who.number) good.told in
+      let is = right_answer (IsRightAnswer opening (log_of past) on) good.answered _ (rights.answers on token who.number) good.is_answer in
       let P : ℕ → Type 0 = λ n. value ≡ answer on (state opening (log_of past) n) in
       subst P (sym good.stamp_is) (good.value_is ∙ is.1)
   right_step who (step.Released on sid token ended.Keep) good = tt
@@ -236,11 +236,11 @@ under_step P true answers h = tt
 under_step P false answers h = h
 
 -- a good step keeps what is right
-stepped_rights : (opening : Tables) (shape : Shape) (past : List Event) (who : Sid) (request : Wanted) (s : Step) (told : Reply)
+stepped_rights : (opening : Tables) (shape : Shape) (past : List Event) (who : Sid) (request : Wanted) (s : Step) (reply : Reply)
     → Holds shape past (known_of past)
     → Rights opening shape past (log_of past) → IsTrueLog opening (log_of past) → IsGoodStep past (steps_at shape past (key_of s)) who s
-    → Rights opening shape (Stepped (shard_of (key_of s) shape.shards) who request s told ∷ past) (log_of past)
-stepped_rights opening shape past who request s told holds rights true_log good =
+    → Rights opening shape (Stepped (shard_of (key_of s) shape.shards) who request s reply ∷ past) (log_of past)
+stepped_rights opening shape past who request s reply holds rights true_log good =
     let is_right = right_step opening shape past holds rights true_log who s good in
     record {
       entries = λ key.
@@ -398,56 +398,56 @@ right_one opening log key answered mine stamp word =
 answer_rights : (opening : Tables) (shape : Shape) (past : List Event) (who : Sid) (request : Wanted) (answered : Answer)
     → answered.stamp ≡ length (log_of past)
     → answered.value ≡ answer answered.key (rows_after opening (log_of past)) → Rights opening shape past (log_of past)
-    → Rights opening shape (Called who request (reply.Answer answered) ∷ past) (log_of past)
+    → Rights opening shape (Called who request (Reply.Answer answered) ∷ past) (log_of past)
 answer_rights opening shape past who request answered stamp word rights = record {
   entries = rights.entries;
-  answers = λ key token number. every-append (IsRightAnswer opening (log_of past) key) (answers_in key number who (reply.Answer answered))
+  answers = λ key token number. every-append (IsRightAnswer opening (log_of past) key) (answers_in key number who (Reply.Answer answered))
       (answers_under key token number past) (right_one opening (log_of past) key answered (who.number == number) stamp word) (rights.answers key token number);
   fresh = rights.fresh;
   found = rights.found;
 }
 
 -- what the sweeper drops
-swept_rights : (opening : Tables) (shape : Shape) (past : List Event) (shard : ℕ) (request : SweepWanted) (made : Option Step) (told : SweepReply)
+swept_rights : (opening : Tables) (shape : Shape) (past : List Event) (shard : ℕ) (request : SweepWanted) (made : Option Step) (reply : SweepReply)
     → IsTrueLog opening (log_of past)
     → IsGoodSweep shape past shard made → Holds shape past (known_of past) → Rights opening shape past (log_of past)
-    → Rights opening shape (Swept shard request made told ∷ past) (log_of past)
-swept_rights opening shape past shard request None told true_log good holds rights =
-    same_rights opening shape past (Swept shard request None told ∷ past) (log_of past) (same-swept past shard request told) rights
-swept_rights opening shape past shard request (Some (step.Released on sid token ended.Drop)) told true_log good holds rights =
+    → Rights opening shape (Swept shard request made reply ∷ past) (log_of past)
+swept_rights opening shape past shard request None reply true_log good holds rights =
+    same_rights opening shape past (Swept shard request None reply ∷ past) (log_of past) (same-swept past shard request reply) rights
+swept_rights opening shape past shard request (Some (step.Released on sid token ended.Drop)) reply true_log good holds rights =
     let s = step.Released on sid token ended.Drop in
-    same_rights opening shape (Stepped shard sid wanted.Nothing s reply.Nothing
-    ∷ past) (Swept shard request (Some s) told ∷ past) (log_of past) (same-dropped past shard on sid token request told)
-    (subst (λ (p : ℕ). Rights opening shape (Stepped p sid wanted.Nothing s reply.Nothing ∷ past) (log_of past)) (sym good.home)
-    (stepped_rights opening shape past sid wanted.Nothing s reply.Nothing holds rights true_log good.over))
-swept_rights opening shape past shard request (Some other) told true_log good holds rights = absurd good
+    same_rights opening shape (Stepped shard sid wanted.Nothing s Reply.Nothing
+    ∷ past) (Swept shard request (Some s) reply ∷ past) (log_of past) (same-dropped past shard on sid token request reply)
+    (subst (λ (p : ℕ). Rights opening shape (Stepped p sid wanted.Nothing s Reply.Nothing ∷ past) (log_of past)) (sym good.home)
+    (stepped_rights opening shape past sid wanted.Nothing s Reply.Nothing holds rights true_log good.over))
+swept_rights opening shape past shard request (Some other) reply true_log good holds rights = absurd good
 
 -- each good event keeps what is right, where the keeper's word was true in it and before
 pub good_rights : (opening : Tables) (shape : Shape) (past : List Event) (event : Event) → IsTrueLog opening (log_of past) → IsGoodEvent shape past event
     → IsTrueEvent (rows_after opening (log_of past)) event → Holds shape past (known_of past) → Rights opening shape past (log_of past)
     → Rights opening shape (event ∷ past) (log_of (event ∷ past))
-good_rights opening shape past (Stepped place who request s told) true_log good word holds rights =
-    subst (Rights opening shape (Stepped place who request s told ∷ past)) (sym (append-nil (log_of past)) ∙ ap (λ l. log_of past ++ l) (sym good.no_commit))
-    (subst (λ (p : ℕ). Rights opening shape (Stepped p who request s told ∷ past) (log_of past)) (sym good.home)
-    (stepped_rights opening shape past who request s told holds rights true_log
+good_rights opening shape past (Stepped place who request s reply) true_log good word holds rights =
+    subst (Rights opening shape (Stepped place who request s reply ∷ past)) (sym (append-nil (log_of past)) ∙ ap (λ l. log_of past ++ l) (sym good.no_commit))
+    (subst (λ (p : ℕ). Rights opening shape (Stepped p who request s reply ∷ past) (log_of past)) (sym good.home)
+    (stepped_rights opening shape past who request s reply holds rights true_log
     (subst (λ (p : ℕ). IsGoodStep past (steps_of p past) who s) good.home good.good)))
-good_rights opening shape past (Called who request (reply.Committed number txn grants)) true_log good word holds rights =
+good_rights opening shape past (Called who request (Reply.Committed number txn grants)) true_log good word holds rights =
     let commit : Commit = record { sid = who; txn = txn } in
-    same_rights opening shape past (Called who request (reply.Committed number txn grants)
-    ∷ past) (log_of past ++ commit ∷ []) (same-called past who request (reply.Committed number txn grants) (λ key number. refl))
+    same_rights opening shape past (Called who request (Reply.Committed number txn grants)
+    ∷ past) (log_of past ++ commit ∷ []) (same-called past who request (Reply.Committed number txn grants) (λ key number. refl))
     (commit_rights opening shape past who commit refl good.opened holds rights)
-good_rights opening shape past (Called who request (reply.Answer answered)) true_log good word holds rights =
-    subst (Rights opening shape (Called who request (reply.Answer answered) ∷ past)) (sym (append-nil (log_of past)))
+good_rights opening shape past (Called who request (Reply.Answer answered)) true_log good word holds rights =
+    subst (Rights opening shape (Called who request (Reply.Answer answered) ∷ past)) (sym (append-nil (log_of past)))
     (answer_rights opening shape past who request answered good word rights)
-good_rights opening shape past (Called who request told) true_log good word holds rights =
-    subst (Rights opening shape (Called who request told ∷ past)) (sym (append-nil (log_of past)))
-    (same_rights opening shape past (Called who request told ∷ past) (log_of past) (same-called past who request told (λ key number. refl)) rights)
+good_rights opening shape past (Called who request reply) true_log good word holds rights =
+    subst (Rights opening shape (Called who request reply ∷ past)) (sym (append-nil (log_of past)))
+    (same_rights opening shape past (Called who request reply ∷ past) (log_of past) (same-called past who request reply (λ key number. refl)) rights)
 good_rights opening shape past (Ticked now) true_log good word holds rights =
     subst (Rights opening shape (Ticked now ∷ past)) (sym (append-nil (log_of past)))
     (same_rights opening shape past (Ticked now ∷ past) (log_of past) (same-ticked past now) rights)
-good_rights opening shape past (Swept place request made told) true_log good word holds rights =
-    subst (Rights opening shape (Swept place request made told ∷ past)) (sym (append-nil (log_of past)))
-    (swept_rights opening shape past place request made told true_log good.0 holds rights)
+good_rights opening shape past (Swept place request made reply) true_log good word holds rights =
+    subst (Rights opening shape (Swept place request made reply ∷ past)) (sym (append-nil (log_of past)))
+    (swept_rights opening shape past place request made reply true_log good.0 holds rights)
 
 pub start_rights : (opening : Tables) (shape : Shape) → Rights opening shape [] []
 start_rights opening shape = record {

@@ -29,7 +29,7 @@ use Rattle.key_freshness.specs.Known.{StandsAt}
 use Rattle.sql_keeper.specs.declared.stores.Commit.{Commit}
 use Rattle.session_client.specs.declared.plans.Shape.{Shape}
 use Rattle.session_client.specs.declared.replies.Reply.{Reply}
-use Rattle.session_client.specs.declared.replies.Reply.TheVariants as reply
+use Rattle.session_client.specs.declared.replies.Reply.TheVariants as Reply
 use Rattle.session_client.specs.declared.replies.Wanted.{Wanted}
 use Rattle.session_client.specs.Plans.{mode_on}
 use Rattle.session_client.specs.Wants.{Given, given, given_in, given_by, granted_by, is_turn, turned, grants_in, granted, is_had, is_commit}
@@ -79,11 +79,11 @@ IsLateDraw shape past s =
 
 -- nor does an event
 abbrev pub DrawsLate : Shape → List Event → Event → Type 0
-DrawsLate shape past (Stepped place who request s told) = IsLateDraw shape past s
-DrawsLate shape past (Called who request told) = Unit {0}
+DrawsLate shape past (Stepped place who request s reply) = IsLateDraw shape past s
+DrawsLate shape past (Called who request reply) = Unit {0}
 DrawsLate shape past (Ticked now) = Unit {0}
-DrawsLate shape past (Swept place request None told) = Unit {0}
-DrawsLate shape past (Swept place request (Some s) told) = IsLateDraw shape past s
+DrawsLate shape past (Swept place request None reply) = Unit {0}
+DrawsLate shape past (Swept place request (Some s) reply) = IsLateDraw shape past s
 
 -- a grant is the session's, in the mode that the session has for its key, or was raised from it
 pub record Fits (n : ℕ) (writing : Writing) (grant : Permit) : Type 0 where
@@ -103,29 +103,29 @@ Suits shape past grant =
 -- the session goes on: it has not begun to end, and it isn't done
 abbrev pub is_going : List Reply → Bool
 is_going [] = true
-is_going (reply.Nothing ∷ heard) = false
-is_going (told ∷ heard) = not (is_ending (told ∷ heard))
+is_going (Reply.Nothing ∷ heard) = false
+is_going (reply ∷ heard) = not (is_ending (reply ∷ heard))
 
 -- a session that wants something and hasn't begun to end goes on
 pub going-on : (writing : Writing) (heard : List Reply) (request : Wanted) → write_wants writing false heard ≡ request → (request ≡ wanted.Nothing → ⊥)
     → is_ending heard ≡ false → is_going heard ≡ true
 going-on writing [] request e some going = refl
-going-on writing (reply.Nothing ∷ heard) request e some going = absurd (some (sym e))
-going-on writing (told ∷ heard) request e some going = ap not going
+going-on writing (Reply.Nothing ∷ heard) request e some going = absurd (some (sym e))
+going-on writing (reply ∷ heard) request e some going = ap not going
 
 -- the session was told last of a raise
 abbrev pub is_raised : Reply → Bool
-is_raised (reply.Raise told) = true
-is_raised (reply.RaiseBack grant) = true
+is_raised (Reply.Raise answer) = true
+is_raised (Reply.RaiseBack grant) = true
 is_raised other = false
 
 abbrev pub raises_last : List Reply → Bool
 raises_last [] = false
-raises_last (told ∷ heard) = is_raised told
+raises_last (reply ∷ heard) = is_raised reply
 
 pub asking-going : (heard : List Reply) → is_asking heard ≡ true → is_going heard ≡ true
 asking-going [] e = refl
-asking-going (reply.Quar told ∷ heard) e = refl
+asking-going (Reply.Quar answer ∷ heard) e = refl
 asking-going (other ∷ heard) e = absurd (false≢true e)
 
 -- the step raises no quarantine
@@ -222,15 +222,15 @@ leaves-ended shape past place on sid token how quar distinct found shut grant ho
     (λ _. stands)
 
 -- a step on a shard leaves a grant of a session where it leaves what stands and what is out
-pub stood-stepped : (shape : Shape) (place : ℕ) (who : Sid) (request : Wanted) (s : Step) (told : Reply) (past : List Event) (n : ℕ) (grant : Permit)
+pub stood-stepped : (shape : Shape) (place : ℕ) (who : Sid) (request : Wanted) (s : Step) (reply : Reply) (past : List Event) (n : ℕ) (grant : Permit)
     → (place ≡ shard_of grant.key shape.shards → closed n past ≡ false → list_any (is_of_permit grant) (standing grant.key (steps_of place past)) ≡ true
     → list_any (is_of_permit grant) (standing grant.key (s ∷ steps_of place past)) ≡ true)
     → ((terms : Terms) (out : List Permit) → list_any (same_permit grant) out ≡ true → list_any (same_permit grant) (out_by terms request s out) ≡ true)
-    → Stood shape past n grant → Stood shape (Stepped place who request s told ∷ past) n grant
-stood-stepped shape place who request s told past n grant stays out h =
+    → Stood shape past n grant → Stood shape (Stepped place who request s reply ∷ past) n grant
+stood-stepped shape place who request s reply past n grant stays out h =
     let home = shard_of grant.key shape.shards in
-    let event = Stepped place who request s told in
-    let Stands : List Step → Type 0 = λ l. list_any (is_of_permit grant) (standing grant.key l) ≡ true in
+    let event = Stepped place who request s reply in
+    let IsThere : List Step → Type 0 = λ l. list_any (is_of_permit grant) (standing grant.key l) ≡ true in
     record {
       own = h.own;
       out = choose (λ l. list_any (same_permit grant) l ≡ true) (place == home)
@@ -239,9 +239,9 @@ stood-stepped shape place who request s told past n grant stays out h =
       was = was-more shape event past n grant h;
       stands = λ still.
           let before = still-open n event past still in
-          maybe-step Stands (place == home) s (steps_of home past)
+          maybe-step IsThere (place == home) s (steps_of home past)
           (λ here. let at : place ≡ home = eqb-true place home here in
-          subst (λ p. Stands (s ∷ steps_of p past)) at (stays at before (subst (λ p. Stands (steps_of p past)) (sym at) (h.stands before))))
+          subst (λ p. IsThere (s ∷ steps_of p past)) at (stays at before (subst (λ p. IsThere (steps_of p past)) (sym at) (h.stands before))))
           (λ _. h.stands before);
     }
 
@@ -252,20 +252,20 @@ open-stays : (shape : Shape) (place : ℕ) (s : Step) (past : List Event) (n : �
 open-stays shape place s past n grant leaves h at still stands =
     leaves grant at (subst (λ m. closed m past ≡ false) (sym h.own) still) stands
 
-pub stood-quiet : (shape : Shape) (place : ℕ) (who : Sid) (request : Wanted) (s : Step) (told : Reply) (past : List Event)
+pub stood-quiet : (shape : Shape) (place : ℕ) (who : Sid) (request : Wanted) (s : Step) (reply : Reply) (past : List Event)
     → IsQuietStep s → ReleasesNone request → (n : ℕ) (grant : Permit)
-    → Stood shape past n grant → Stood shape (Stepped place who request s told ∷ past) n grant
-stood-quiet shape place who request s told past quiet none n grant h =
-    stood-stepped shape place who request s told past n grant (open-stays shape place s past n grant (leaves-quiet shape past place s quiet) h)
+    → Stood shape past n grant → Stood shape (Stepped place who request s reply ∷ past) n grant
+stood-quiet shape place who request s reply past quiet none n grant h =
+    stood-stepped shape place who request s reply past n grant (open-stays shape place s past n grant (leaves-quiet shape past place s quiet) h)
     (λ terms out is. ap (list_any (same_permit grant)) (none terms s out ∙ quiet-out s quiet terms out) ∙ is) h
 
 pub stood-granted : (shape : Shape) (place : ℕ) (who : Sid) (request : Wanted)
-    (on : QKey) (by : Sid) (mode : Mode) (shift : ℤ) (now token deadline : ℕ) (told : Reply) (past : List Event) → ReleasesNone request
+    (on : QKey) (by : Sid) (mode : Mode) (shift : ℤ) (now token deadline : ℕ) (reply : Reply) (past : List Event) → ReleasesNone request
     → (n : ℕ) (grant : Permit) → Stood shape past n grant
-    → Stood shape (Stepped place who request (step.Granted on by mode shift now token deadline) told ∷ past) n grant
-stood-granted shape place who request on by mode shift now token deadline told past none n grant h =
+    → Stood shape (Stepped place who request (step.Granted on by mode shift now token deadline) reply ∷ past) n grant
+stood-granted shape place who request on by mode shift now token deadline reply past none n grant h =
     let s = step.Granted on by mode shift now token deadline in
-    stood-stepped shape place who request s told past n grant
+    stood-stepped shape place who request s reply past n grant
     (open-stays shape place s past n grant (leaves-granted shape past place on by mode shift now token deadline) h)
     (λ terms out is. ap (list_any (same_permit grant)) (none terms s out) ∙ any-front (same_permit grant) out _ is) h
 
@@ -283,11 +283,11 @@ same_permit-refl grant =
 any_one : {X : Type 0} (p : X → Bool) (x : X) → p x ≡ true → list_any p (x ∷ []) ≡ true
 any_one p x e = or_inl (p x) false e
 
-pub stood-new : (shape : Shape) (who : Sid) (request : Wanted) (on : QKey) (mode : Mode) (shift : ℤ) (now token deadline : ℕ) (told : Reply) (past : List Event)
+pub stood-new : (shape : Shape) (who : Sid) (request : Wanted) (on : QKey) (mode : Mode) (shift : ℤ) (now token deadline : ℕ) (reply : Reply) (past : List Event)
     → ReleasesNone request
-    → Stood shape (Stepped (shard_of on shape.shards) who request (step.Granted on who mode shift now token deadline) told ∷ past) who.number
+    → Stood shape (Stepped (shard_of on shape.shards) who request (step.Granted on who mode shift now token deadline) reply ∷ past) who.number
     (record { shard = shard_of on shape.shards; key = on; sid = who; mode = mode; token = token })
-stood-new shape who request on mode shift now token deadline told past none =
+stood-new shape who request on mode shift now token deadline reply past none =
     let home = shard_of on shape.shards in
     let steps = steps_of home past in
     let s = step.Granted on who mode shift now token deadline in
@@ -296,7 +296,7 @@ stood-new shape who request on mode shift now token deadline told past none =
     let out = out_of shape home past in
     let xs = standing on steps in
     let here : (home == home) ≡ true = eq-eqb home home refl in
-    let Stands : List Quar → Type 0 = λ l. list_any (is_of_permit made) l ≡ true in
+    let IsThere : List Quar → Type 0 = λ l. list_any (is_of_permit made) l ≡ true in
     let Out : List Permit → Type 0 = λ l. list_any (same_permit made) l ≡ true in
     record {
       own = refl;
@@ -307,8 +307,8 @@ stood-new shape who request on mode shift now token deadline told past none =
           (λ _. or_inl (grants made s) (list_any (grants made) steps)
           (and_intro _ _ (and_intro _ _ (same_key-refl on) (eq-eqb who.number who.number refl)) (eq-eqb token token refl)))
           (λ other. absurd (not_both here other));
-      stands = λ _. maybe-step (λ l. Stands (standing on l)) (home == home) s steps
-          (λ _. choose Stands (same_key on on) (xs ++ quar ∷ []) xs
+      stands = λ _. maybe-step (λ l. IsThere (standing on l)) (home == home) s steps
+          (λ _. choose IsThere (same_key on on) (xs ++ quar ∷ []) xs
           (λ _. any-back (is_of_permit made) xs (quar ∷ []) (any_one (is_of_permit made) quar
           (and_intro _ _ (and_intro _ _ (eq-eqb who.number who.number refl) (same_way-refl mode)) (eq-eqb token token refl))))
           (λ other. absurd (not_both (same_key-refl on) other)))
@@ -332,51 +332,51 @@ out-other grant gone request s returns other terms out is =
     subst (λ l. list_any (same_permit grant) l ≡ true) (sym (returns terms s out)) (without-other grant gone out other is)
 
 -- the release of one grant leaves each other one, where its step leaves what stands for sessions that aren't closed
-pub stood-returned : (shape : Shape) (place : ℕ) (who : Sid) (request : Wanted) (s : Step) (told : Reply) (past : List Event) (gone : Permit)
+pub stood-returned : (shape : Shape) (place : ℕ) (who : Sid) (request : Wanted) (s : Step) (reply : Reply) (past : List Event) (gone : Permit)
     → ReturnsGrant gone request → LeavesOpen shape past place s
-    → (n : ℕ) (grant : Permit) → (gone ≡ grant → ⊥) → Stood shape past n grant → Stood shape (Stepped place who request s told ∷ past) n grant
-stood-returned shape place who request s told past gone returns leaves n grant other h =
-    stood-stepped shape place who request s told past n grant (open-stays shape place s past n grant leaves h) (out-other grant gone request s returns other) h
+    → (n : ℕ) (grant : Permit) → (gone ≡ grant → ⊥) → Stood shape past n grant → Stood shape (Stepped place who request s reply ∷ past) n grant
+stood-returned shape place who request s reply past gone returns leaves n grant other h =
+    stood-stepped shape place who request s reply past n grant (open-stays shape place s past n grant leaves h) (out-other grant gone request s returns other) h
 
-pub stood-called : (shape : Shape) (who : Sid) (request : Wanted) (told : Reply) (past : List Event) (n : ℕ) (grant : Permit) → Stood shape past n grant
-    → Stood shape (Called who request told ∷ past) n grant
-stood-called shape who request told past n grant h =
-    record { own = h.own; out = h.out; was = h.was; stands = λ still. h.stands (still-open n (Called who request told) past still) }
+pub stood-called : (shape : Shape) (who : Sid) (request : Wanted) (reply : Reply) (past : List Event) (n : ℕ) (grant : Permit) → Stood shape past n grant
+    → Stood shape (Called who request reply ∷ past) n grant
+stood-called shape who request reply past n grant h =
+    record { own = h.own; out = h.out; was = h.was; stands = λ still. h.stands (still-open n (Called who request reply) past still) }
 
 pub stood-ticked : (shape : Shape) (now : ℕ) (past : List Event) (n : ℕ) (grant : Permit) → Stood shape past n grant → Stood shape (Ticked now ∷ past) n grant
 stood-ticked shape now past n grant h =
     record { own = h.own; out = h.out; was = h.was; stands = λ still. h.stands (still-open n (Ticked now) past still) }
 
-pub stood-unmade : (shape : Shape) (place : ℕ) (request : SweepWanted) (told : SweepReply) (past : List Event) (n : ℕ) (grant : Permit)
-    → Stood shape past n grant → Stood shape (Swept place request None told ∷ past) n grant
-stood-unmade shape place request told past n grant h =
+pub stood-unmade : (shape : Shape) (place : ℕ) (request : SweepWanted) (reply : SweepReply) (past : List Event) (n : ℕ) (grant : Permit)
+    → Stood shape past n grant → Stood shape (Swept place request None reply ∷ past) n grant
+stood-unmade shape place request reply past n grant h =
     let home = shard_of grant.key shape.shards in
-    let event = Swept place request None told in
+    let event = Swept place request None reply in
     record {
       own = h.own;
       out = h.out;
       was = was-more shape event past n grant h;
-      stands = λ still. ap (λ l. list_any (is_of_permit grant) (standing grant.key l)) (unmade-steps home place request told past)
+      stands = λ still. ap (λ l. list_any (is_of_permit grant) (standing grant.key l)) (unmade-steps home place request reply past)
           ∙ h.stands (still-open n event past still);
     }
 
-pub stood-swept : (shape : Shape) (place : ℕ) (request : SweepWanted) (s : Step) (told : SweepReply) (past : List Event)
+pub stood-swept : (shape : Shape) (place : ℕ) (request : SweepWanted) (s : Step) (reply : SweepReply) (past : List Event)
     → LeavesOpen shape past place s → (n : ℕ) (grant : Permit) → Stood shape past n grant
-    → Stood shape (Swept place request (Some s) told ∷ past) n grant
-stood-swept shape place request s told past leaves n grant h =
+    → Stood shape (Swept place request (Some s) reply ∷ past) n grant
+stood-swept shape place request s reply past leaves n grant h =
     let home = shard_of grant.key shape.shards in
-    let event = Swept place request (Some s) told in
-    let Stands : List Step → Type 0 = λ l. list_any (is_of_permit grant) (standing grant.key l) ≡ true in
+    let event = Swept place request (Some s) reply in
+    let IsThere : List Step → Type 0 = λ l. list_any (is_of_permit grant) (standing grant.key l) ≡ true in
     record {
       own = h.own;
       out = h.out;
       was = was-more shape event past n grant h;
       stands = λ still.
           let before = still-open n event past still in
-          maybe-step Stands (place == home) s (steps_of home past)
+          maybe-step IsThere (place == home) s (steps_of home past)
           (λ here. let at : place ≡ home = eqb-true place home here in
-          subst (λ p. Stands (s ∷ steps_of p past)) at
-          (open-stays shape place s past n grant leaves h at before (subst (λ p. Stands (steps_of p past)) (sym at) (h.stands before))))
+          subst (λ p. IsThere (s ∷ steps_of p past)) at
+          (open-stays shape place s past n grant leaves h at before (subst (λ p. IsThere (steps_of p past)) (sym at) (h.stands before))))
           (λ _. h.stands before);
     }
 
@@ -423,42 +423,42 @@ found_none (step.Raised on sid token) calm key t none = absurd calm
 found_none other calm key t none = refl
 
 -- a step that grants none of them, and raises none, leaves what they found and their modes
-pub finds-apart : (shape : Shape) (place : ℕ) (who : Sid) (request : Wanted) (s : Step) (told : Reply) (past : List Event) (grant : Permit)
+pub finds-apart : (shape : Shape) (place : ℕ) (who : Sid) (request : Wanted) (s : Step) (reply : Reply) (past : List Event) (grant : Permit)
     → grants_as grant.key grant.token s ≡ false
-    → (found_at grant.key grant.token (Stepped place who request s told ∷ past) ≡ found_at grant.key grant.token past)
-    × ((quar : Quar) → quar_of grant.key grant.token (steps_of (shard_of grant.key shape.shards) (Stepped place who request s told ∷ past)) ≡ Some quar
+    → (found_at grant.key grant.token (Stepped place who request s reply ∷ past) ≡ found_at grant.key grant.token past)
+    × ((quar : Quar) → quar_of grant.key grant.token (steps_of (shard_of grant.key shape.shards) (Stepped place who request s reply ∷ past)) ≡ Some quar
     → StandsIn grant.key grant.token (steps_of (shard_of grant.key shape.shards) past) quar)
-finds-apart shape place who request s told past grant none = (
+finds-apart shape place who request s reply past grant none = (
   ap (λ b. cond b (Some (record { commits = length (log_of past); entry = entry grant.key (steps_of place past) })) (found_at grant.key grant.token past)) none,
   stands-apart shape place s past grant none,
 )
 
-pub finds-stepped : (shape : Shape) (place : ℕ) (who : Sid) (request : Wanted) (s : Step) (told : Reply) (past : List Event) (n : ℕ)
-    → RaisesNone s → IsLateDraw shape past s → Finds shape (Stepped place who request s told) past n
-finds-stepped shape place who request s told past n calm late grant own was low =
-    finds-apart shape place who request s told past grant (found_none s calm grant.key grant.token (late grant.key grant.token low).1)
+pub finds-stepped : (shape : Shape) (place : ℕ) (who : Sid) (request : Wanted) (s : Step) (reply : Reply) (past : List Event) (n : ℕ)
+    → RaisesNone s → IsLateDraw shape past s → Finds shape (Stepped place who request s reply) past n
+finds-stepped shape place who request s reply past n calm late grant own was low =
+    finds-apart shape place who request s reply past grant (found_none s calm grant.key grant.token (late grant.key grant.token low).1)
 
-pub finds-none : (shape : Shape) (place : ℕ) (who : Sid) (request : Wanted) (s : Step) (told : Reply) (past : List Event) (n : ℕ)
-    → ((key : QKey) (token : ℕ) → grants_as key token s ≡ false) → Finds shape (Stepped place who request s told) past n
-finds-none shape place who request s told past n none grant own was low =
-    finds-apart shape place who request s told past grant (none grant.key grant.token)
+pub finds-none : (shape : Shape) (place : ℕ) (who : Sid) (request : Wanted) (s : Step) (reply : Reply) (past : List Event) (n : ℕ)
+    → ((key : QKey) (token : ℕ) → grants_as key token s ≡ false) → Finds shape (Stepped place who request s reply) past n
+finds-none shape place who request s reply past n none grant own was low =
+    finds-apart shape place who request s reply past grant (none grant.key grant.token)
 
-pub finds-called : (shape : Shape) (who : Sid) (request : Wanted) (told : Reply) (past : List Event) (n : ℕ) → Finds shape (Called who request told) past n
-finds-called shape who request told past n grant own was low = (refl, λ quar e. (quar, e, refl))
+pub finds-called : (shape : Shape) (who : Sid) (request : Wanted) (reply : Reply) (past : List Event) (n : ℕ) → Finds shape (Called who request reply) past n
+finds-called shape who request reply past n grant own was low = (refl, λ quar e. (quar, e, refl))
 
 pub finds-ticked : (shape : Shape) (now : ℕ) (past : List Event) (n : ℕ) → Finds shape (Ticked now) past n
 finds-ticked shape now past n grant own was low = (refl, λ quar e. (quar, e, refl))
 
-pub finds-unmade : (shape : Shape) (place : ℕ) (request : SweepWanted) (told : SweepReply) (past : List Event) (n : ℕ)
-    → Finds shape (Swept place request None told) past n
-finds-unmade shape place request told past n grant own was low = (
+pub finds-unmade : (shape : Shape) (place : ℕ) (request : SweepWanted) (reply : SweepReply) (past : List Event) (n : ℕ)
+    → Finds shape (Swept place request None reply) past n
+finds-unmade shape place request reply past n grant own was low = (
   refl,
-  λ quar e. (quar, sym (ap (λ l. quar_of grant.key grant.token l) (unmade-steps (shard_of grant.key shape.shards) place request told past)) ∙ e, refl),
+  λ quar e. (quar, sym (ap (λ l. quar_of grant.key grant.token l) (unmade-steps (shard_of grant.key shape.shards) place request reply past)) ∙ e, refl),
 )
 
-pub finds-swept : (shape : Shape) (place : ℕ) (request : SweepWanted) (s : Step) (told : SweepReply) (past : List Event) (n : ℕ)
-    → ((key : QKey) (token : ℕ) → grants_as key token s ≡ false) → Finds shape (Swept place request (Some s) told) past n
-finds-swept shape place request s told past n none grant own was low =
+pub finds-swept : (shape : Shape) (place : ℕ) (request : SweepWanted) (s : Step) (reply : SweepReply) (past : List Event) (n : ℕ)
+    → ((key : QKey) (token : ℕ) → grants_as key token s ≡ false) → Finds shape (Swept place request (Some s) reply) past n
+finds-swept shape place request s reply past n none grant own was low =
     (refl, stands-apart shape place s past grant (none grant.key grant.token))
 
 -- a token that was drawn stays so, and so does the number of a commit, and an old value
@@ -523,8 +523,8 @@ writer-more shape event past n heard writing finds keeps w = record {
   olds = olds-more shape event past n heard writing finds w;
 }
 
-no-given : (told : Reply) → grants_in told ≡ [] → given_in told ≡ []
-no-given (reply.Quar (quarantine.Granted grant old)) e = cc
+no-given : (reply : Reply) → grants_in reply ≡ [] → given_in reply ≡ []
+no-given (Reply.Quar (quarantine.Granted grant old)) e = cc
 no-given other e = refl
 
 -- the quarantine that is found under the token of a grant that stands has its mode
@@ -550,32 +550,32 @@ stands-granted on who mode token place shift deadline xs =
     (λ other. absurd (not_both (same_key-refl on) other))
 
 -- a reply brings no grant, and leaves those that the session has
-pub record Brings (told : Reply) : Type 0 where
-  pub none : grants_in told ≡ []
-  pub kept : (place : ℕ) (grants : List Permit) → granted_by told place grants ≡ grants
-  pub left : (place : ℕ) (ones : List Given) → given_by told place ones ≡ ones
+pub record Brings (reply : Reply) : Type 0 where
+  pub none : grants_in reply ≡ []
+  pub kept : (place : ℕ) (grants : List Permit) → granted_by reply place grants ≡ grants
+  pub left : (place : ℕ) (ones : List Given) → given_by reply place ones ≡ ones
 
 -- a writer that is told a reply which brings no grant stays one, where each grant that isn't released stands, and its end and its number are right
-pub writer-told : (shape : Shape) (event : Event) (past : List Event) (n : ℕ) (told : Reply) (heard : List Reply) (writing : Writing)
-    → Brings told → is_had told ≡ false → Finds shape event past n
-    → ((i : ℕ) (grant : Permit) → slice_get (granted heard) i ≡ Some grant → released (told ∷ heard) ≤ i → Stood shape (event ∷ past) n grant)
-    → (released (told ∷ heard) ≡ 0) ⊎ (closed n (event ∷ past) ≡ true)
-    → (is_ending (told ∷ heard) ≡ true → closed n (event ∷ past) ≡ true)
-    → ((number : ℕ) → number_of (told ∷ heard) ≡ Some number → IsNumber (log_of (event ∷ past)) n number)
-    → (is_going (told ∷ heard) ≡ true → (was_committed (told ∷ heard) ≡ false) × (released (told ∷ heard) ≡ 0))
-    → (is_raised told ≡ true → writing.mode ≡ Invalidate)
-    → Writer shape past n heard writing → Writer shape (event ∷ past) n (told ∷ heard) writing
-writer-told shape event past n told heard writing brings none finds stood shut ending numbered going raising w =
-    let same : granted (told ∷ heard) ≡ granted heard = ap (λ l. granted_by told (turned heard) (granted heard) ++ l) brings.none
-    ∙ append-nil (granted_by told (turned heard) (granted heard)) ∙ brings.kept (turned heard) (granted heard) in
-    let all : given (told ∷ heard) ≡ given heard = ap (λ l. given_by told (turned heard) (given heard) ++ l) (no-given told brings.none)
-    ∙ append-nil (given_by told (turned heard) (given heard)) ∙ brings.left (turned heard) (given heard) in
-    let evers : ever (told ∷ heard) ≡ ever heard = ap (λ l. ever heard ++ l) brings.none ∙ append-nil (ever heard) in
-    let a = count-cons is_had told heard in
-    let b = zero_if (is_had told) none in
+pub writer-heard : (shape : Shape) (event : Event) (past : List Event) (n : ℕ) (reply : Reply) (heard : List Reply) (writing : Writing)
+    → Brings reply → is_had reply ≡ false → Finds shape event past n
+    → ((i : ℕ) (grant : Permit) → slice_get (granted heard) i ≡ Some grant → released (reply ∷ heard) ≤ i → Stood shape (event ∷ past) n grant)
+    → (released (reply ∷ heard) ≡ 0) ⊎ (closed n (event ∷ past) ≡ true)
+    → (is_ending (reply ∷ heard) ≡ true → closed n (event ∷ past) ≡ true)
+    → ((number : ℕ) → number_of (reply ∷ heard) ≡ Some number → IsNumber (log_of (event ∷ past)) n number)
+    → (is_going (reply ∷ heard) ≡ true → (was_committed (reply ∷ heard) ≡ false) × (released (reply ∷ heard) ≡ 0))
+    → (is_raised reply ≡ true → writing.mode ≡ Invalidate)
+    → Writer shape past n heard writing → Writer shape (event ∷ past) n (reply ∷ heard) writing
+writer-heard shape event past n reply heard writing brings none finds stood shut ending numbered going raising w =
+    let same : granted (reply ∷ heard) ≡ granted heard = ap (λ l. granted_by reply (turned heard) (granted heard) ++ l) brings.none
+    ∙ append-nil (granted_by reply (turned heard) (granted heard)) ∙ brings.kept (turned heard) (granted heard) in
+    let all : given (reply ∷ heard) ≡ given heard = ap (λ l. given_by reply (turned heard) (given heard) ++ l) (no-given reply brings.none)
+    ∙ append-nil (given_by reply (turned heard) (given heard)) ∙ brings.left (turned heard) (given heard) in
+    let evers : ever (reply ∷ heard) ≡ ever heard = ap (λ l. ever heard ++ l) brings.none ∙ append-nil (ever heard) in
+    let a = count-cons is_had reply heard in
+    let b = zero_if (is_had reply) none in
     let had = w.had in
     let len = ap length evers in
-    let old : (i : ℕ) (grant : Permit) → slice_get (granted (told ∷ heard)) i ≡ Some grant
+    let old : (i : ℕ) (grant : Permit) → slice_get (granted (reply ∷ heard)) i ≡ Some grant
     → slice_get (granted heard) i ≡ Some grant = λ i grant e. sym (ap (λ l. slice_get l i) same) ∙ e in
     record {
       once = w.once;
@@ -593,35 +593,35 @@ writer-told shape event past n told heard writing brings none finds stood shut e
       shut = shut;
       ending = ending;
       going = going;
-      unraised = λ i grant e late. let d = count-cons is_turn told heard in w.unraised i grant (old i grant e) (omega (arith, late, d));
+      unraised = λ i grant e late. let d = count-cons is_turn reply heard in w.unraised i grant (old i grant e) (omega (arith, late, d));
       raising = raising;
       numbered = numbered;
       olds = λ i one e. olds-more shape event past n heard writing finds w i one (sym (ap (λ l. slice_get l i) all) ∙ e);
     }
 
 -- a reply that brings no grant, and is none of a release or a commit
-pub record Mild (told : Reply) : Type 0 where
-  pub brings : Brings told
-  pub calm : is_raised told ≡ false
-  pub had : is_had told ≡ false
-  pub release : is_release told ≡ false
-  pub commit : is_commit told ≡ false
+pub record Mild (reply : Reply) : Type 0 where
+  pub brings : Brings reply
+  pub calm : is_raised reply ≡ false
+  pub had : is_had reply ≡ false
+  pub release : is_release reply ≡ false
+  pub commit : is_commit reply ≡ false
 
-no-number : (told : Reply) (heard : List Reply) → is_commit told ≡ false → number_of (told ∷ heard) ≡ number_of heard
-no-number (reply.Committed number txn grants) heard e = cc
+no-number : (reply : Reply) (heard : List Reply) → is_commit reply ≡ false → number_of (reply ∷ heard) ≡ number_of heard
+no-number (Reply.Committed number txn grants) heard e = cc
 no-number other heard e = refl
 
-pub writer-mild : (shape : Shape) (event : Event) (past : List Event) (n : ℕ) (told : Reply) (heard : List Reply) (writing : Writing)
-    → Mild told → Finds shape event past n → Keeps shape event past n
-    → (is_ending (told ∷ heard) ≡ true → closed n (event ∷ past) ≡ true) → (is_going (told ∷ heard) ≡ true → is_going heard ≡ true)
-    → Writer shape past n heard writing → Writer shape (event ∷ past) n (told ∷ heard) writing
-writer-mild shape event past n told heard writing mild finds keeps ending goes w =
-    let c = count-cons is_release told heard in
-    let d = zero_if (is_release told) mild.release in
-    let rel : released (told ∷ heard) ≡ released heard = omega (arith, c, d) in
-    writer-told shape event past n told heard writing mild.brings mild.had finds
+pub writer-mild : (shape : Shape) (event : Event) (past : List Event) (n : ℕ) (reply : Reply) (heard : List Reply) (writing : Writing)
+    → Mild reply → Finds shape event past n → Keeps shape event past n
+    → (is_ending (reply ∷ heard) ≡ true → closed n (event ∷ past) ≡ true) → (is_going (reply ∷ heard) ≡ true → is_going heard ≡ true)
+    → Writer shape past n heard writing → Writer shape (event ∷ past) n (reply ∷ heard) writing
+writer-mild shape event past n reply heard writing mild finds keeps ending goes w =
+    let c = count-cons is_release reply heard in
+    let d = zero_if (is_release reply) mild.release in
+    let rel : released (reply ∷ heard) ≡ released heard = omega (arith, c, d) in
+    writer-heard shape event past n reply heard writing mild.brings mild.had finds
     (λ i grant at not_yet. keeps grant (w.fits i grant at).own (w.stood i grant at (omega (arith, not_yet, rel))))
     (subst (λ r. (r ≡ 0) ⊎ (closed n (event ∷ past) ≡ true)) (sym rel) (shut-more n event past heard w.shut)) ending
-    (λ number e. number-more event past n number (w.numbered number (sym (no-number told heard mild.commit) ∙ e)))
+    (λ number e. number-more event past n number (w.numbered number (sym (no-number reply heard mild.commit) ∙ e)))
     (λ on. (ap (λ b. b || was_committed heard) mild.commit ∙ (w.going (goes on)).0, rel ∙ (w.going (goes on)).1))
     (λ on. absurd (not_both on mild.calm)) w

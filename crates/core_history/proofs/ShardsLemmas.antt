@@ -81,11 +81,11 @@ turned : (steps : List Step) (made : Step) → reverse steps ++ made ∷ [] ≡ 
 turned steps made = sym (reverse-append (made ∷ []) steps)
 
 -- a shard that made a step, and the others, stand after its event
-pub shards_after_step : (shape : Shape) (past : List Event) (who : Sid) (request : Wanted) (made : Step) (told : Reply) (home : ℕ) (shards : List ShardView)
+pub shards_after_step : (shape : Shape) (past : List Event) (who : Sid) (request : Wanted) (made : Step) (reply : Reply) (home : ℕ) (shards : List ShardView)
     → HasShards shards shape past → home < shape.shards →
-    HasShards (set shards home (grown (shard_after shape past home) request made)) shape (Stepped home who request made told ∷ past)
-shards_after_step shape past who request made told home shards has within =
-    shards_after shape past (Stepped home who request made told) home (grown (shard_after shape past home) request made) shards has within
+    HasShards (set shards home (grown (shard_after shape past home) request made)) shape (Stepped home who request made reply ∷ past)
+shards_after_step shape past who request made reply home shards has within =
+    shards_after shape past (Stepped home who request made reply) home (grown (shard_after shape past home) request made) shards has within
     (ap H (turned (steps_of home past) made) ∙ ap (after home) (sym (eq-eqb home home refl)))
     (λ place apart. ap (after place) apart)
   where
@@ -102,10 +102,10 @@ shards_after_step shape past who request made told home shards has within =
         }
 
 -- a step of the sweeper's that makes none on a shard leaves the shards
-pub shards_looked : (shards : List ShardView) (shape : Shape) (past : List Event) (place : ℕ) (request : SweepWanted) (told : SweepReply)
-    → HasShards shards shape past → HasShards shards shape (Swept place request None told ∷ past)
-shards_looked shards shape past place request told has =
-    shards_same shards shape past (Swept place request None told) has
+pub shards_looked : (shards : List ShardView) (shape : Shape) (past : List Event) (place : ℕ) (request : SweepWanted) (reply : SweepReply)
+    → HasShards shards shape past → HasShards shards shape (Swept place request None reply ∷ past)
+shards_looked shards shape past place request reply has =
+    shards_same shards shape past (Swept place request None reply) has
     (λ at. ap (λ (steps : List Step). record { terms = terms_of shape at; history = reverse steps; out = out_of shape at past; gone = 0 })
     (none (place == at) (steps_of at past)))
   where
@@ -114,12 +114,12 @@ shards_looked shards shape past place request told has =
     none false steps = refl
 
 -- a shard that was swept, and the others, stand after that
-pub shards_swept : (shape : Shape) (past : List Event) (request : SweepWanted) (key : QKey) (token : ℕ) (told : SweepReply) (home : ℕ) (shards : List ShardView)
+pub shards_swept : (shape : Shape) (past : List Event) (request : SweepWanted) (key : QKey) (token : ℕ) (reply : SweepReply) (home : ℕ) (shards : List ShardView)
     → HasShards shards shape past → home < shape.shards →
     HasShards (set shards home (swept (shard_after shape past home) (sweep_step (steps_of home past) key token))) shape
-    (Swept home request (sweep_step (steps_of home past) key token) told ∷ past)
-shards_swept shape past request key token told home shards has within =
-    shards_after shape past (Swept home request (sweep_step (steps_of home past) key token) told) home
+    (Swept home request (sweep_step (steps_of home past) key token) reply ∷ past)
+shards_swept shape past request key token reply home shards has within =
+    shards_after shape past (Swept home request (sweep_step (steps_of home past) key token) reply) home
     (swept (shard_after shape past home) (sweep_step (steps_of home past) key token)) shards has within
     (by (quar_of key token (steps_of home past)) ∙ ap (after home (sweep_step (steps_of home past) key token)) (sym (eq-eqb home home refl)))
     (λ place apart. ap (after place (sweep_step (steps_of home past) key token)) apart)
@@ -140,23 +140,23 @@ shards_swept shape past request key token told home shards has within =
         (turned (steps_of home past) (Released key quar.sid token Drop))
 
 -- an event at the store leaves the shards, and so does a tick
-pub shards_called : (shards : List ShardView) (shape : Shape) (past : List Event) (who : Sid) (request : Wanted) (told : Reply) → HasShards shards shape past
-    → HasShards shards shape (Called who request told ∷ past)
-shards_called shards shape past who request told has = shards_same shards shape past (Called who request told) has (λ place. refl)
+pub shards_called : (shards : List ShardView) (shape : Shape) (past : List Event) (who : Sid) (request : Wanted) (reply : Reply) → HasShards shards shape past
+    → HasShards shards shape (Called who request reply ∷ past)
+shards_called shards shape past who request reply has = shards_same shards shape past (Called who request reply) has (λ place. refl)
 
 pub shards_ticked : (shards : List ShardView) (shape : Shape) (past : List Event) (now : ℕ) → HasShards shards shape past
     → HasShards shards shape (Ticked now ∷ past)
 shards_ticked shards shape past now has = shards_same shards shape past (Ticked now) has (λ place. refl)
 
 length-steps_in : (place : ℕ) (event : Event) → length (steps_in place event) ≤ 1
-length-steps_in place (Stepped shard who request step told) = one (shard == place) step
+length-steps_in place (Stepped shard who request step reply) = one (shard == place) step
   where
     one : (b : Bool) (s : Step) → length (cond b (s ∷ []) []) ≤ 1
     one true s = omega arith
     one false s = omega arith
-length-steps_in place (Called who request told) = omega arith
+length-steps_in place (Called who request reply) = omega arith
 length-steps_in place (Ticked now) = omega arith
-length-steps_in place (Swept shard request made told) = some (shard == place) made
+length-steps_in place (Swept shard request made reply) = some (shard == place) made
   where
     some : (b : Bool) (made : Option Step) → length (cond b (option_to_list made) []) ≤ 1
     some true None = omega arith

@@ -20,14 +20,14 @@ use Rattle.key_shard.specs.Past.{recorded, entry, entry_ended, entry_shifted, is
 use Rattle.sql_keeper.specs.declared.stores.Answer.{Answer}
 use Rattle.session_client.specs.declared.plans.Shape.{Shape}
 use Rattle.session_client.specs.declared.replies.Reply.{Reply}
-use Rattle.session_client.specs.declared.replies.Reply.TheVariants as reply
+use Rattle.session_client.specs.declared.replies.Reply.TheVariants as Reply
 use Rattle.session_client.specs.declared.replies.Wanted.{Wanted}
 use Rattle.session_client.specs.declared.replies.Wanted.TheVariants as wanted
 use Rattle.core_history.specs.Events.{Event, Stepped, Called, Ticked, Swept, steps_in, steps_of, log_of, known_of}
 use Rattle.core_history.specs.Facts.{leases, leased_at, answers_under, Found, grants_as, found_at}
 use Rattle.core_history.specs.Sweeps.{IsHitSince}
 use Rattle.core_history.proofs.ExclusiveLemmas.{writes_alone}
-use Rattle.core_history.proofs.GoodEvents.{IsTold, SetsTold, WritesOwn, IsGoodStep, IsGoodEvent}
+use Rattle.core_history.proofs.GoodEvents.{IsAmong, SetsAnswer, WritesOwn, IsGoodStep, IsGoodEvent}
 use Rattle.core_history.proofs.HeldEvents.{steps_at, IsBetween, Holds, Gives, recorded_cases}
 use Rattle.core_history.proofs.KeyLemmas.{StandsIn, quar-kept}
 use Rattle.core_history.proofs.EventLemmas.{unmade-steps}
@@ -73,11 +73,11 @@ shifted_since least stamp by None le = tt
 shifted_since least stamp by (Some old) le = number_since least stamp (shifted old.0 by) le
 
 -- an answer that was told under a lease
-told_since : (least most : ℕ) (answered : Answer) (answers : List Answer) → AllByRecursion (IsBetween least most) answers → IsTold answered answers
+answer_since : (least most : ℕ) (answered : Answer) (answers : List Answer) → AllByRecursion (IsBetween least most) answers → IsAmong answered answers
     → least ≤ answered.stamp
-told_since least most answered (first ∷ answers) h (inl e) = subst (λ (a : Answer). least ≤ a.stamp) e h.0.0
-told_since least most answered (first ∷ answers) h (inr t) = told_since least most answered answers h.1 t
-told_since least most answered [] h t = absurd t
+answer_since least most answered (first ∷ answers) h (inl e) = subst (λ (a : Answer). least ≤ a.stamp) e h.0.0
+answer_since least most answered (first ∷ answers) h (inr t) = answer_since least most answered answers h.1 t
+answer_since least most answered [] h t = absurd t
 
 -- a step that gives a lease gives its token
 gives_leases : (key : QKey) (lease : ReadLease) (s : Step) → Gives key lease s → leases key lease.token s ≡ true
@@ -97,13 +97,13 @@ module _ (shape : Shape) (key : QKey) (least : ℕ) (past : List Event) (holds :
   steps = steps_at shape past key
 
   -- what is stored was told under the lease that is recorded
-  stored_since : (who : Sid) (token : ℕ) (value : List ℕ) (stamp : ℕ) → SetsTold past steps who key token value stamp → least ≤ stamp
+  stored_since : (who : Sid) (token : ℕ) (value : List ℕ) (stamp : ℕ) → SetsAnswer past steps who key token value stamp → least ≤ stamp
   stored_since who token value stamp sets =
       let lease = holds.leased key sets.lease sets.is_recorded in
       let at = length lease.then_known.log in
       let low = since.leased sets.lease at sets.is_recorded lease.leased in
       let asked = (holds.asked key token who.number at (subst (λ (t : ℕ). leased_at key t past ≡ Some at) sets.mine lease.leased)).1 in
-      let high = told_since at (length (log_of past)) sets.answered (answers_under key token who.number past) asked sets.told in
+      let high = answer_since at (length (log_of past)) sets.answered (answers_under key token who.number past) asked sets.is_answer in
       let is = sets.stamp_is in
       omega (arith, low, high, is)
 
@@ -130,7 +130,7 @@ module _ (shape : Shape) (key : QKey) (least : ℕ) (past : List Event) (holds :
   entry_since : (who : Sid) (s : Step) → IsGoodStep past steps who s → IsEntrySince least (entry key (s ∷ steps))
   entry_since who (step.Stored on token now value stamp evicted) good =
       choose (IsEntrySince least) (same_key key on) (Some (value, stamp)) (cond (is_evicted key evicted) None (entry key steps))
-      (λ same. stored_since who token value stamp (subst (λ k. SetsTold past steps who k token value stamp) (sym (same_key-true key on same)) good))
+      (λ same. stored_since who token value stamp (subst (λ k. SetsAnswer past steps who k token value stamp) (sym (same_key-true key on same)) good))
       (λ _. goes_since least (is_evicted key evicted) (entry key steps) since.held)
   entry_since who (step.Released on sid token how) good =
       choose (IsEntrySince least) (same_key key on) (entry_ended how (entry key steps)) (cond (is_evicted key (evicted_by how)) None (entry key steps))
@@ -158,9 +158,9 @@ module _ (shape : Shape) (key : QKey) (least : ℕ) (past : List Event) (holds :
   hit_since who other good = tt
 
   -- a good step on a shard, whoever makes it
-  stepped_since : (home : ℕ) (who : Sid) (request : Wanted) (s : Step) (told : Reply) → IsGoodStep past (steps_of home past) who s
-      → Since shape key least (Stepped home who request s told ∷ past)
-  stepped_since home who request s told good = record {
+  stepped_since : (home : ℕ) (who : Sid) (request : Wanted) (s : Step) (reply : Reply) → IsGoodStep past (steps_of home past) who s
+      → Since shape key least (Stepped home who request s reply ∷ past)
+  stepped_since home who request s reply good = record {
     held = maybe-step (λ l. IsEntrySince least (entry key l)) here s steps
         (λ same. entry_since who s (subst (λ (p : ℕ). IsGoodStep past (steps_of p past) who s) (eqb-true home (shard_of key shape.shards) same) good))
         (λ _. since.held);
@@ -192,29 +192,29 @@ module _ (shape : Shape) (key : QKey) (least : ℕ) (past : List Event) (holds :
 
   -- each good event
   pub event_since : (event : Event) → IsGoodEvent shape past event → Since shape key least (event ∷ past)
-  event_since (Stepped home who request s told) good = stepped_since home who request s told good.good
-  event_since (Called who request told) good = same_since shape key least past (Called who request told ∷ past) refl (λ t. refl) (λ t. refl) since
+  event_since (Stepped home who request s reply) good = stepped_since home who request s reply good.good
+  event_since (Called who request reply) good = same_since shape key least past (Called who request reply ∷ past) refl (λ t. refl) (λ t. refl) since
   event_since (Ticked now) good = same_since shape key least past (Ticked now ∷ past) refl (λ t. refl) (λ t. refl) since
-  event_since (Swept home request None told) good =
-      let same = unmade-steps (shard_of key shape.shards) home request told past in
-      same_since shape key least past (Swept home request None told ∷ past) (sym same) (λ t. refl) (λ t. refl) since
-  event_since (Swept home request (Some (step.Released on sid token ended.Drop)) told) good =
+  event_since (Swept home request None reply) good =
+      let same = unmade-steps (shard_of key shape.shards) home request reply past in
+      same_since shape key least past (Swept home request None reply ∷ past) (sym same) (λ t. refl) (λ t. refl) since
+  event_since (Swept home request (Some (step.Released on sid token ended.Drop)) reply) good =
       let s = step.Released on sid token ended.Drop in
-      same_since shape key least (Stepped home sid wanted.Nothing s reply.Nothing ∷ past) (Swept home request (Some s) told ∷ past) refl (λ t. refl) (λ t. refl)
-      (stepped_since home sid wanted.Nothing s reply.Nothing good.0.over)
-  event_since (Swept home request (Some other) told) good = absurd good.0
+      same_since shape key least (Stepped home sid wanted.Nothing s Reply.Nothing ∷ past) (Swept home request (Some s) reply ∷ past) refl (λ t. refl) (λ t. refl)
+      (stepped_since home sid wanted.Nothing s Reply.Nothing good.0.over)
+  event_since (Swept home request (Some other) reply) good = absurd good.0
 
   -- and each hit that it made
   pub event_hits : (event : Event) → IsGoodEvent shape past event → AllByRecursion (IsHitSince key least) (steps_in (shard_of key shape.shards) event)
-  event_hits (Stepped home who request s told) good =
+  event_hits (Stepped home who request s reply) good =
       choose (AllByRecursion (IsHitSince key least)) (home == shard_of key shape.shards) (s ∷ []) []
       (λ same. (hit_since who s (subst (λ (p : ℕ). IsGoodStep past (steps_of p past) who s) (eqb-true home (shard_of key shape.shards) same) good.good), tt))
       (λ _. tt)
-  event_hits (Called who request told) good = tt
+  event_hits (Called who request reply) good = tt
   event_hits (Ticked now) good = tt
-  event_hits (Swept home request None told) good =
+  event_hits (Swept home request None reply) good =
       choose (AllByRecursion (IsHitSince key least)) (home == shard_of key shape.shards) [] [] (λ _. tt) (λ _. tt)
-  event_hits (Swept home request (Some (step.Released on sid token ended.Drop)) told) good =
+  event_hits (Swept home request (Some (step.Released on sid token ended.Drop)) reply) good =
       choose (AllByRecursion (IsHitSince key least)) (home == shard_of key shape.shards)
       (step.Released on sid token ended.Drop ∷ []) [] (λ _. (tt, tt)) (λ _. tt)
-  event_hits (Swept home request (Some other) told) good = absurd good.0
+  event_hits (Swept home request (Some other) reply) good = absurd good.0

@@ -38,7 +38,7 @@ histories_are shards shape past has =
     ∙ ap (λ (n : ℕ). map (λ place. reverse (steps_of place past)) (range_with_len 0 n)) has.count
 
 pub sound : (core : CoreView) (origin : Origin) (moves : List Move) → HasKept core origin moves
-    → ForSome core.store.told (λ told. told ≡ rows_after core.store.ledger.opening core.store.ledger.log) → IsSound core origin moves
+    → ForSome core.store.known_rows (λ known. known ≡ rows_after core.store.ledger.opening core.store.ledger.log) → IsSound core origin moves
 sound core origin moves kept rows =
     let shape = origin.shape in
     let some : shape.shards ≢ 0 = λ e. absurd (omega (arith, kept.shards.fit.some_shards, e)) in
@@ -46,7 +46,7 @@ sound core origin moves kept rows =
       log = kept.store.log;
       histories = histories_are core.shards shape (world_of shape moves).past kept.shards;
       lawful = runs_are_lawful_is shape moves some kept.plans;
-      rows = λ told is. rows told is ∙ ap (λ (t : Tables). rows_after t core.store.ledger.log) kept.store.opening
+      rows = λ known is. rows known is ∙ ap (λ (t : Tables). rows_after t core.store.ledger.log) kept.store.opening
           ∙ ap (rows_after origin.opening) kept.store.log;
-      fresh = λ told. (runs_fresh shape origin.opening moves some kept.plans kept.fit (kept.store.truth told)).1;
+      fresh = λ known. (runs_fresh shape origin.opening moves some kept.plans kept.fit (kept.store.truth known)).1;
     }

@@ -26,7 +26,7 @@ use Rattle.sql_keeper.specs.Faults.{is_failure, Counts}
 use Rattle.sql_keeper.specs.Sessions.{is_open as may_commit, ended, with_phase}
 use Rattle.session_client.specs.Grants.{GrantsView}
 use Rattle.session_client.specs.declared.replies.Reply.{Reply}
-use Rattle.session_client.specs.declared.replies.Reply.TheVariants as reply
+use Rattle.session_client.specs.declared.replies.Reply.TheVariants as Reply
 use Rattle.session_client.specs.declared.replies.Fault.TheVariants as causes
 use Rattle.session_client.specs.declared.replies.Wanted.{Wanted}
 use Rattle.session_client.specs.declared.replies.Wanted.TheVariants as wanted
@@ -35,7 +35,7 @@ use Rattle.expiry_sweeper.specs.declared.replies.SweepWanted.TheVariants as swee
 use Rattle.core_history.specs.Cores.{Origin, HasStore, HasPhases, RoseBy}
 use Rattle.core_history.specs.Events.{Event, Stepped, Called, Ticked, Swept, commits_in, ends_in, log_of}
 use Rattle.core_history.specs.Lines.{is_fault, tells_fault}
-use Rattle.core_history.specs.Machine.{World, Said, Value, Made, Rejected, Failed, step_reply, ask_told, is_open, commit_by, log_cap}
+use Rattle.core_history.specs.Machine.{World, Said, Value, Made, Rejected, Failed, step_reply, ask_reply, is_open, commit_by, log_cap}
 use Rattle.executor.specs.OnStore.{Goes, TellsAnswer, TellsStaged, TellsCommit, TellsEnd, MakesAtStore}
 use Rattle.core_history.specs.Requests.{IsStoreAfter, MakesCall, GoesOn, tells_memory, after}
 use Rattle.core_history.proofs.OpenLemmas.{phases_same, phases_committed, phases_ended}
@@ -76,12 +76,12 @@ pub quiet_tick : (now : ℕ) → IsQuiet (Ticked now)
 quiet_tick now = record { commits = refl; ends = refl; fault = refl; truth = λ rows. tt }
 
 -- a scan is so
-pub quiet_scan : (place shard : ℕ) (made : Option Step) (told : SweepReply) → IsQuiet (Swept place (sweep.Scan shard) made told)
-quiet_scan place shard made told = record { commits = refl; ends = refl; fault = refl; truth = λ rows. tt }
+pub quiet_scan : (place shard : ℕ) (made : Option Step) (reply : SweepReply) → IsQuiet (Swept place (sweep.Scan shard) made reply)
+quiet_scan place shard made reply = record { commits = refl; ends = refl; fault = refl; truth = λ rows. tt }
 
 -- the sweeper's drop is so
-pub quiet_drop : (place : ℕ) (key : QKey) (token : ℕ) (made : Option Step) (told : SweepReply) → IsQuiet (Swept place (sweep.Drop key token) made told)
-quiet_drop place key token made told = record { commits = refl; ends = refl; fault = refl; truth = λ rows. tt }
+pub quiet_drop : (place : ℕ) (key : QKey) (token : ℕ) (made : Option Step) (reply : SweepReply) → IsQuiet (Swept place (sweep.Drop key token) made reply)
+quiet_drop place key token made reply = record { commits = refl; ends = refl; fault = refl; truth = λ rows. tt }
 
 -- a call of the keeper leaves all but the count of its failures
 record CallsSame (before after : Ledger) : Type 0 where
@@ -122,9 +122,9 @@ quiet_more false count before old new quiet same none = same ∙ quiet (omega (a
 -- the store after a call that told this
 pub store_called : (old new : StoreView) (b : Bool) (origin : Origin) (past : List Event) (event : Event)
     → HasStore old origin past → new.ledger ≡ with_call b old.ledger → Counts b old.faults new.faults → old.faults ≤ new.faults →
-    is_fault event ≡ b → commits_in event ≡ [] → (IsSome new.told → IsSome old.told)
-    → (IsSome new.told → IsTrueEvent (rows_after old.ledger.opening old.ledger.log) event) → HasStore new origin (event ∷ past)
-store_called old new b origin past event has ledger rose more fault no_commit told truth =
+    is_fault event ≡ b → commits_in event ≡ [] → (IsSome new.known_rows → IsSome old.known_rows)
+    → (IsSome new.known_rows → IsTrueEvent (rows_after old.ledger.opening old.ledger.log) event) → HasStore new origin (event ∷ past)
+store_called old new b origin past event has ledger rose more fault no_commit known truth =
     let same = called_same b old.ledger new.ledger ledger in
     let log : log_of past ++ commits_in event ≡ log_of past = ap (λ (l : List Commit). log_of past ++ l) no_commit ∙ append-nil (log_of past) in
     let count : count_by is_fault (event ∷ past) ≡ tick b + count_by is_fault past =
@@ -139,10 +139,10 @@ store_called old new b origin past event has ledger rose more fault no_commit to
           ∙ ap (λ (n : ℕ). min n (2 ^ 64 - 1)) (sym count);
       faults = subst F (sym count) (rose_more b (count_by is_fault past) origin.faults old.faults new.faults has.faults rose more);
       quiet = λ none. quiet_more b (count_by is_fault past) origin.faults old.faults new.faults has.quiet rose (sym count ∙ none);
-      telling = λ is_told. has.telling (told is_told);
+      telling = λ is_told. has.telling (known is_told);
       truth = λ is_told. (
         subst T (ap (λ (rows : Tables). rows_after rows old.ledger.log) has.opening ∙ ap (rows_after origin.opening) has.log) (truth is_told),
-        has.truth (told is_told),
+        has.truth (known is_told),
       );
     }
 
@@ -154,8 +154,8 @@ store_quiet store origin past event has quiet =
 
 -- a store of which nothing has changed, but perhaps that it tells its rows no more
 pub store_stays : (old new : StoreView) (origin : Origin) (past : List Event)
-    → HasStore old origin past → new.ledger ≡ old.ledger → new.faults ≡ old.faults → (IsSome new.told → IsSome old.told) → HasStore new origin past
-store_stays old new origin past has ledger same told =
+    → HasStore old origin past → new.ledger ≡ old.ledger → new.faults ≡ old.faults → (IsSome new.known_rows → IsSome old.known_rows) → HasStore new origin past
+store_stays old new origin past has ledger same known =
     record {
       opening = ap (λ (l : Ledger). l.opening) ledger ∙ has.opening;
       log = ap (λ (l : Ledger). l.log) ledger ∙ has.log;
@@ -163,16 +163,16 @@ store_stays old new origin past has ledger same told =
       failed = ap (λ (l : Ledger). l.failed) ledger ∙ has.failed;
       faults = subst (λ (n : ℕ). RoseBy (count_by is_fault past) origin.faults n) (sym same) has.faults;
       quiet = λ none. same ∙ has.quiet none;
-      telling = λ is_told. has.telling (told is_told);
-      truth = λ is_told. has.truth (told is_told);
+      telling = λ is_told. has.telling (known is_told);
+      truth = λ is_told. has.truth (known is_told);
     }
 
 -- the store after a commit
 pub store_committed : (old new : StoreView) (origin : Origin) (past : List Event) (who : Sid) (txn : List Change) (event : Event)
     → HasStore old origin past → new.ledger ≡ with_commit who txn old.ledger → new.faults ≡ old.faults →
-    is_fault event ≡ false → commits_in event ≡ record { sid = who; txn = txn } ∷ [] → (IsSome new.told → IsSome old.told)
-    → (IsSome new.told → IsTrueEvent (rows_after old.ledger.opening old.ledger.log) event) → HasStore new origin (event ∷ past)
-store_committed old new origin past who txn event has ledger same fault commits told truth =
+    is_fault event ≡ false → commits_in event ≡ record { sid = who; txn = txn } ∷ [] → (IsSome new.known_rows → IsSome old.known_rows)
+    → (IsSome new.known_rows → IsTrueEvent (rows_after old.ledger.opening old.ledger.log) event) → HasStore new origin (event ∷ past)
+store_committed old new origin past who txn event has ledger same fault commits known truth =
     let e = count-cons is_fault event past in
     let z = zero_if (is_fault event) fault in
     let count : count_by is_fault (event ∷ past) ≡ count_by is_fault past = omega (arith, e, z) in
@@ -186,18 +186,18 @@ store_committed old new origin past who txn event has ledger same fault commits 
       failed = ap (λ (l : Ledger). l.failed) ledger ∙ has.failed ∙ ap (λ (n : ℕ). min n (2 ^ 64 - 1)) (sym count);
       faults = subst (λ (n : ℕ). F n new.faults) (sym count) (subst (F (count_by is_fault past)) (sym same) has.faults);
       quiet = λ none. same ∙ has.quiet (sym count ∙ none);
-      telling = λ is_told. has.telling (told is_told);
+      telling = λ is_told. has.telling (known is_told);
       truth = λ is_told. (
         subst T (ap (λ (rows : Tables). rows_after rows old.ledger.log) has.opening ∙ ap (rows_after origin.opening) has.log) (truth is_told),
-        has.truth (told is_told),
+        has.truth (known is_told),
       );
     }
 
 -- the store after a session was ended, by a turn of its own or by the sweeper
 pub store_ended : (old new : StoreView) (origin : Origin) (past : List Event) (who : Sid) (event : Event)
-    → HasStore old origin past → new.ledger ≡ with_end who old.ledger → (IsSome new.told → IsSome old.told) → new.faults ≡ old.faults →
+    → HasStore old origin past → new.ledger ≡ with_end who old.ledger → (IsSome new.known_rows → IsSome old.known_rows) → new.faults ≡ old.faults →
     is_fault event ≡ false → commits_in event ≡ [] → ((rows : Tables) → IsTrueEvent rows event) → HasStore new origin (event ∷ past)
-store_ended old new origin past who event has ledger told faults fault no_commit truth =
+store_ended old new origin past who event has ledger known faults fault no_commit truth =
     store_called new new false origin past event between refl refl (omega arith) fault no_commit (λ h. h) (λ is_told. truth _)
   where
     between : HasStore new origin past
@@ -208,94 +208,94 @@ store_ended old new origin past who event has ledger told faults fault no_commit
       failed = ap (λ (l : Ledger). l.failed) ledger ∙ has.failed;
       faults = subst (λ (n : ℕ). RoseBy (count_by is_fault past) origin.faults n) (sym faults) has.faults;
       quiet = λ none. faults ∙ has.quiet none;
-      telling = λ is_told. has.telling (told is_told);
-      truth = λ is_told. has.truth (told is_told);
+      telling = λ is_told. has.telling (known is_told);
+      truth = λ is_told. has.truth (known is_told);
     }
 
 -- the store after a call of the keeper that made no commit and ended nobody
 pub call_made : (old new : StoreView) (b : Bool) (origin : Origin) (world : World) (event : Event)
     → IsStoreAfter old origin world → new.ledger ≡ with_call b old.ledger → Counts b old.faults new.faults → old.faults ≤ new.faults →
-    is_fault event ≡ b → commits_in event ≡ [] → ends_in event ≡ [] → (IsSome new.told → IsSome old.told)
-    → (IsSome new.told → IsTrueEvent (rows_after old.ledger.opening old.ledger.log) event) → IsStoreAfter new origin (after world event)
-call_made old new b origin world event stands ledger rose more fault no_commit no_end told truth =
+    is_fault event ≡ b → commits_in event ≡ [] → ends_in event ≡ [] → (IsSome new.known_rows → IsSome old.known_rows)
+    → (IsSome new.known_rows → IsTrueEvent (rows_after old.ledger.opening old.ledger.log) event) → IsStoreAfter new origin (after world event)
+call_made old new b origin world event stands ledger rose more fault no_commit no_end known truth =
     let H : List Phase → Type 0 = λ xs. HasPhases xs (after world event) in (
-      store_called old new b origin world.past event stands.0 ledger rose more fault no_commit told truth,
+      store_called old new b origin world.past event stands.0 ledger rose more fault no_commit known truth,
       subst H (sym (sessions_called b old.ledger new.ledger ledger)) (phases_same old.ledger.sessions world event stands.1 no_commit no_end),
     )
 
 -- a call of the keeper that wasn't made, but perhaps that it tells its rows no more
 pub call_unmade : (old new : StoreView) (origin : Origin) (world : World)
-    → IsStoreAfter old origin world → new.ledger ≡ old.ledger → new.faults ≡ old.faults → (IsSome new.told → IsSome old.told) → IsStoreAfter new origin world
-call_unmade old new origin world stands ledger same told =
+    → IsStoreAfter old origin world → new.ledger ≡ old.ledger → new.faults ≡ old.faults → (IsSome new.known_rows → IsSome old.known_rows) → IsStoreAfter new origin world
+call_unmade old new origin world stands ledger same known =
     let H : List Phase → Type 0 = λ xs. HasPhases xs world in (
-      store_stays old new origin world.past stands.0 ledger same told,
+      store_stays old new origin world.past stands.0 ledger same known,
       subst H (sym (ap (λ (l : Ledger). l.sessions) ledger)) stands.1,
     )
 
 -- want of memory leaves the store, but perhaps that it tells its rows no more
 unmade : (old new : StoreView) (origin : Origin) (world : World) → IsStoreAfter old origin world → Goes false old.ledger old new → IsStoreAfter new origin world
-unmade old new origin world stands goes = call_unmade old new origin world stands goes.ledger_is goes.counted goes.told_before
+unmade old new origin world stands goes = call_unmade old new origin world stands goes.ledger_is goes.counted goes.known_before
 
 -- what the executor made of the store for an ask is the event of the request
-ask_made : (old new : StoreView) (origin : Origin) (world : World) (who : Sid) (key : QKey) (told : Reply) (result : Result Reply Memory)
-    → IsStoreAfter old origin world → old.faults ≤ new.faults → TellsAnswer key old new told → GoesOn told result
+ask_made : (old new : StoreView) (origin : Origin) (world : World) (who : Sid) (key : QKey) (known : Reply) (result : Result Reply Memory)
+    → IsStoreAfter old origin world → old.faults ≤ new.faults → TellsAnswer key old new known → GoesOn known result
     → MakesCall origin world who (wanted.Ask key) new result
-ask_made old new origin world who key (reply.Answer given) (Ok kept) stands more (goes, answer) on =
-    let event : Event = Called who (wanted.Ask key) (ask_told world.past key (Value given.value)) in
+ask_made old new origin world who key (Reply.Answer given) (Ok kept) stands more (goes, answer) on =
+    let event : Event = Called who (wanted.Ask key) (ask_reply world.past key (Value given.value)) in
     let stamp : given.stamp ≡ length (log_of world.past) = answer.stamped ∙ ap (λ (l : List Commit). length l) stands.0.log in (
       Value given.value,
-      on.0 ∙ ap (λ (a : Answer). reply.Answer a) (answer_is given key (length (log_of world.past)) answer.of_key stamp),
-      call_made old new false origin world event stands goes.ledger_is goes.counted more refl refl refl goes.told_before answer.value_is,
+      on.0 ∙ ap (λ (a : Answer). Reply.Answer a) (answer_is given key (length (log_of world.past)) answer.of_key stamp),
+      call_made old new false origin world event stands goes.ledger_is goes.counted more refl refl refl goes.known_before answer.value_is,
     )
   where
     answer_is : (given : Answer) (key : QKey) (stamp : ℕ) → given.key ≡ key
         → given.stamp ≡ stamp → given ≡ record { key = key; value = given.value; stamp = stamp }
     answer_is given key stamp e f = λ i. record { key = e i; value = given.value; stamp = f i }
-ask_made old new origin world who key (reply.Answer given) (Err memory) stands more made on = absurd (false≢true on)
-ask_made old new origin world who key (reply.Fault causes.Keep) (Ok kept) stands more goes on = (
+ask_made old new origin world who key (Reply.Answer given) (Err memory) stands more made on = absurd (false≢true on)
+ask_made old new origin world who key (Reply.Fault causes.Keep) (Ok kept) stands more goes on = (
   Failed,
   on.0,
-  call_made old new true origin world (Called who (wanted.Ask key) (reply.Fault causes.Keep))
-      stands goes.ledger_is goes.counted more refl refl refl goes.told_before (λ told. tt),
+  call_made old new true origin world (Called who (wanted.Ask key) (Reply.Fault causes.Keep))
+      stands goes.ledger_is goes.counted more refl refl refl goes.known_before (λ known. tt),
 )
-ask_made old new origin world who key (reply.Fault causes.Keep) (Err memory) stands more goes on = absurd (false≢true on)
-ask_made old new origin world who key (reply.Fault causes.Memory) (Ok kept) stands more goes on = absurd (false≢true (sym on.1))
-ask_made old new origin world who key (reply.Fault causes.Memory) (Err memory) stands more goes on = unmade old new origin world stands goes
-ask_made old new origin world who key (reply.Fault causes.Spent) result stands more made on = absurd made
+ask_made old new origin world who key (Reply.Fault causes.Keep) (Err memory) stands more goes on = absurd (false≢true on)
+ask_made old new origin world who key (Reply.Fault causes.Memory) (Ok kept) stands more goes on = absurd (false≢true (sym on.1))
+ask_made old new origin world who key (Reply.Fault causes.Memory) (Err memory) stands more goes on = unmade old new origin world stands goes
+ask_made old new origin world who key (Reply.Fault causes.Spent) result stands more made on = absurd made
 ask_made old new origin world who key other result stands more made on = absurd made
 
 -- so it is for an ask of the rows after a transaction
-staged_made : (old new : StoreView) (origin : Origin) (world : World) (who : Sid) (key : QKey) (txn : List Change) (told : Reply) (result : Result Reply Memory)
-    → IsStoreAfter old origin world → old.faults ≤ new.faults → TellsStaged key txn old new told → GoesOn told result
+staged_made : (old new : StoreView) (origin : Origin) (world : World) (who : Sid) (key : QKey) (txn : List Change) (known : Reply) (result : Result Reply Memory)
+    → IsStoreAfter old origin world → old.faults ≤ new.faults → TellsStaged key txn old new known → GoesOn known result
     → MakesCall origin world who (wanted.Staged key txn) new result
-staged_made old new origin world who key txn (reply.Staged value back) (Ok kept) stands more (same, made) on = (
+staged_made old new origin world who key txn (Reply.Staged value back) (Ok kept) stands more (same, made) on = (
   Value value,
-  on.0 ∙ ap (λ (t : List Change). reply.Staged value t) same,
-  call_made old new false origin world (Called who (wanted.Staged key txn) (reply.Staged value txn))
-      stands made.goes.ledger_is made.goes.counted more refl refl refl made.goes.told_before made.value_is,
+  on.0 ∙ ap (λ (t : List Change). Reply.Staged value t) same,
+  call_made old new false origin world (Called who (wanted.Staged key txn) (Reply.Staged value txn))
+      stands made.goes.ledger_is made.goes.counted more refl refl refl made.goes.known_before made.value_is,
 )
-staged_made old new origin world who key txn (reply.Staged value back) (Err memory) stands more made on = absurd (false≢true on)
-staged_made old new origin world who key txn (reply.NotStaged (staged.Rejected index) back) (Ok kept) stands more (same, made) on = (
+staged_made old new origin world who key txn (Reply.Staged value back) (Err memory) stands more made on = absurd (false≢true on)
+staged_made old new origin world who key txn (Reply.NotStaged (staged.Rejected index) back) (Ok kept) stands more (same, made) on = (
   Rejected index,
-  on.0 ∙ ap (λ (t : List Change). reply.NotStaged (staged.Rejected index) t) same,
-  call_made old new false origin world (Called who (wanted.Staged key txn) (reply.NotStaged (staged.Rejected index) txn))
-      stands made.goes.ledger_is made.goes.counted more refl refl refl made.goes.told_before made.value_is,
+  on.0 ∙ ap (λ (t : List Change). Reply.NotStaged (staged.Rejected index) t) same,
+  call_made old new false origin world (Called who (wanted.Staged key txn) (Reply.NotStaged (staged.Rejected index) txn))
+      stands made.goes.ledger_is made.goes.counted more refl refl refl made.goes.known_before made.value_is,
 )
-staged_made old new origin world who key txn (reply.NotStaged (staged.Rejected index) back) (Err memory) stands more made on = absurd (false≢true on)
-staged_made old new origin world who key txn (reply.NotStaged staged.Failed back) (Ok kept) stands more (same, made) on = (
+staged_made old new origin world who key txn (Reply.NotStaged (staged.Rejected index) back) (Err memory) stands more made on = absurd (false≢true on)
+staged_made old new origin world who key txn (Reply.NotStaged staged.Failed back) (Ok kept) stands more (same, made) on = (
   Failed,
-  on.0 ∙ ap (λ (t : List Change). reply.NotStaged staged.Failed t) same,
-  call_made old new true origin world (Called who (wanted.Staged key txn) (reply.NotStaged staged.Failed txn))
-      stands made.goes.ledger_is made.goes.counted more refl refl refl made.goes.told_before (λ told. tt),
+  on.0 ∙ ap (λ (t : List Change). Reply.NotStaged staged.Failed t) same,
+  call_made old new true origin world (Called who (wanted.Staged key txn) (Reply.NotStaged staged.Failed txn))
+      stands made.goes.ledger_is made.goes.counted more refl refl refl made.goes.known_before (λ known. tt),
 )
-staged_made old new origin world who key txn (reply.NotStaged staged.Failed back) (Err memory) stands more made on = absurd (false≢true on)
-staged_made old new origin world who key txn (reply.NotStaged staged.Memory back) (Ok kept) stands more made on = absurd (false≢true (sym on.1))
-staged_made old new origin world who key txn (reply.NotStaged staged.Memory back) (Err memory) stands more (same, made) on =
+staged_made old new origin world who key txn (Reply.NotStaged staged.Failed back) (Err memory) stands more made on = absurd (false≢true on)
+staged_made old new origin world who key txn (Reply.NotStaged staged.Memory back) (Ok kept) stands more made on = absurd (false≢true (sym on.1))
+staged_made old new origin world who key txn (Reply.NotStaged staged.Memory back) (Err memory) stands more (same, made) on =
     unmade old new origin world stands made.goes
 staged_made old new origin world who key txn other result stands more made on = absurd made
 
 -- a reply of this fault tells of the keeper where the fault is that of one that failed
-fault_is : (fault : CommitFault) (txn : List Change) (grants : GrantsView) → tells_fault (reply.NotCommitted fault txn grants) ≡ is_failure fault
+fault_is : (fault : CommitFault) (txn : List Change) (grants : GrantsView) → tells_fault (Reply.NotCommitted fault txn grants) ≡ is_failure fault
 fault_is faults.Ended txn grants = refl
 fault_is (faults.Uncovered key) txn grants = refl
 fault_is (faults.LogFull count) txn grants = refl
@@ -304,7 +304,7 @@ fault_is (faults.Rejected index) txn grants = refl
 fault_is faults.KeepFault txn grants = refl
 
 true_fault : (fault : CommitFault) (request : Wanted) (txn : List Change) (grants : GrantsView) (rows : Tables)
-    → IsTrueFault txn rows fault → IsTrueReply rows request (reply.NotCommitted fault txn grants)
+    → IsTrueFault txn rows fault → IsTrueReply rows request (Reply.NotCommitted fault txn grants)
 true_fault faults.Ended request txn grants rows h = tt
 true_fault (faults.Uncovered key) request txn grants rows h = tt
 true_fault (faults.LogFull count) request txn grants rows h = tt
@@ -314,13 +314,13 @@ true_fault faults.KeepFault request txn grants rows h = tt
 
 -- what the keeper said in a commit that was refused
 said_of : (count : ℕ) (txn : List Change) (grants : GrantsView) (first : Option CommitFault) (fault : CommitFault)
-    → IsRefusal first fault → fault ≢ faults.Memory → (said : Said) × (reply.NotCommitted fault txn grants ≡ commit_by count txn grants said first)
-said_of count txn grants (Some found) faults.Ended h more = (Failed, ap (λ (f : CommitFault). reply.NotCommitted f txn grants) h)
-said_of count txn grants (Some found) (faults.Uncovered key) h more = (Failed, ap (λ (f : CommitFault). reply.NotCommitted f txn grants) h)
-said_of count txn grants (Some found) (faults.LogFull number) h more = (Failed, ap (λ (f : CommitFault). reply.NotCommitted f txn grants) h)
+    → IsRefusal first fault → fault ≢ faults.Memory → (said : Said) × (Reply.NotCommitted fault txn grants ≡ commit_by count txn grants said first)
+said_of count txn grants (Some found) faults.Ended h more = (Failed, ap (λ (f : CommitFault). Reply.NotCommitted f txn grants) h)
+said_of count txn grants (Some found) (faults.Uncovered key) h more = (Failed, ap (λ (f : CommitFault). Reply.NotCommitted f txn grants) h)
+said_of count txn grants (Some found) (faults.LogFull number) h more = (Failed, ap (λ (f : CommitFault). Reply.NotCommitted f txn grants) h)
 said_of count txn grants (Some found) faults.Memory h more = absurd (more refl)
-said_of count txn grants (Some found) (faults.Rejected index) h more = (Failed, ap (λ (f : CommitFault). reply.NotCommitted f txn grants) h)
-said_of count txn grants (Some found) faults.KeepFault h more = (Failed, ap (λ (f : CommitFault). reply.NotCommitted f txn grants) h)
+said_of count txn grants (Some found) (faults.Rejected index) h more = (Failed, ap (λ (f : CommitFault). Reply.NotCommitted f txn grants) h)
+said_of count txn grants (Some found) faults.KeepFault h more = (Failed, ap (λ (f : CommitFault). Reply.NotCommitted f txn grants) h)
 said_of count txn grants None faults.Ended h more = absurd h
 said_of count txn grants None (faults.Uncovered key) h more = absurd h
 said_of count txn grants None (faults.LogFull number) h more = absurd h
@@ -345,19 +345,19 @@ pub commit_refused : (old new : StoreView) (origin : Origin) (world : World) (wh
     (items : List Permit) (fault : CommitFault) → IsStoreAfter old origin world → 1 ≤ who.number → items ≡ grants.items → fault ≢ faults.Memory →
     IsRefusal (commit_fault (may_commit who old.ledger.sessions) who items txn (length old.ledger.log) old.ledger.cap) fault
     → new.ledger ≡ with_call (is_failure fault) old.ledger → Counts (is_failure fault) old.faults new.faults → old.faults ≤ new.faults →
-    (IsSome new.told → IsSome old.told) → (IsSome new.told → IsTrueFault txn (rows_after old.ledger.opening old.ledger.log) fault) →
-    MakesCall origin world who (wanted.Commit txn grants) new (Ok (reply.NotCommitted fault txn grants))
-commit_refused old new origin world who txn grants items fault stands some same more refusal ledger rose no_less told truth =
+    (IsSome new.known_rows → IsSome old.known_rows) → (IsSome new.known_rows → IsTrueFault txn (rows_after old.ledger.opening old.ledger.log) fault) →
+    MakesCall origin world who (wanted.Commit txn grants) new (Ok (Reply.NotCommitted fault txn grants))
+commit_refused old new origin world who txn grants items fault stands some same more refusal ledger rose no_less known truth =
     let request = wanted.Commit txn grants in
     let first = first_is old origin world who txn grants items stands some same in
     let R : Option CommitFault → Type 0 = λ o. IsRefusal o fault in
     let said = said_of (length (log_of world.past)) txn grants
     (commit_fault (is_open world who) who grants.items txn (length (log_of world.past)) log_cap) fault (subst R first refusal) more in
-    let answer : Reply = reply.NotCommitted fault txn grants in
+    let answer : Reply = Reply.NotCommitted fault txn grants in
     let event : Event = Called who request answer in
     let S : Reply → Type 0 = λ r. IsStoreAfter new origin (after world (Called who request r)) in
     let there : IsStoreAfter new origin (after world event) =
-    call_made old new (is_failure fault) origin world event stands ledger rose no_less (fault_is fault txn grants) refl refl told
+    call_made old new (is_failure fault) origin world event stands ledger rose no_less (fault_is fault txn grants) refl refl known
     (λ is_told. true_fault fault request txn grants (rows_after old.ledger.opening old.ledger.log) (truth is_told)) in
     (said.0, said.1, subst S said.1 there)
 
@@ -371,34 +371,34 @@ pub commit_made : (old new : StoreView) (origin : Origin) (world : World) (who :
     (txn : List Change) (grants : GrantsView) (items : List Permit) (number : ℕ) → IsStoreAfter old origin world → 1 ≤ who.number → items ≡ grants.items →
     commit_fault (may_commit who old.ledger.sessions) who items txn (length old.ledger.log) old.ledger.cap ≡ None
     → number ≡ length old.ledger.log + 1 → new.ledger ≡ with_commit who txn old.ledger → new.faults ≡ old.faults →
-    (IsSome new.told → IsSome old.told) → (IsSome new.told → (rows : Tables) × (apply_all txn (rows_after old.ledger.opening old.ledger.log) ≡ Ok rows)) →
-    MakesCall origin world who (wanted.Commit txn grants) new (Ok (reply.Committed number txn grants))
-commit_made old new origin world who txn grants items number stands some same admitted numbered ledger same_count told truth =
+    (IsSome new.known_rows → IsSome old.known_rows) → (IsSome new.known_rows → (rows : Tables) × (apply_all txn (rows_after old.ledger.opening old.ledger.log) ≡ Ok rows)) →
+    MakesCall origin world who (wanted.Commit txn grants) new (Ok (Reply.Committed number txn grants))
+commit_made old new origin world who txn grants items number stands some same admitted numbered ledger same_count known truth =
     let request = wanted.Commit txn grants in
     let count = length (log_of world.past) in
     let none = sym (first_is old origin world who txn grants items stands some same) ∙ admitted in
     let is_so : may_commit who old.ledger.sessions ≡ true =
     is_opened (may_commit who old.ledger.sessions) who items txn (length old.ledger.log) old.ledger.cap admitted in
-    let answer : Reply = reply.Committed number txn grants in
+    let answer : Reply = Reply.Committed number txn grants in
     let event : Event = Called who request answer in
     let numbers : number ≡ count + 1 = numbered ∙ ap (λ (l : List Commit). length l + 1) stands.0.log in
     let is : answer ≡ commit_by count txn grants Made (commit_fault (is_open world who) who grants.items txn count log_cap) =
-    ap (λ (n : ℕ). reply.Committed n txn grants) numbers ∙ ap (λ (o : Option CommitFault). commit_by count txn grants Made o) (sym none) in
+    ap (λ (n : ℕ). Reply.Committed n txn grants) numbers ∙ ap (λ (o : Option CommitFault). commit_by count txn grants Made o) (sym none) in
     let S : Reply → Type 0 = λ r. IsStoreAfter new origin (after world (Called who request r)) in
     let H : List Phase → Type 0 = λ xs. HasPhases xs (after world event) in
     let sessions : new.ledger.sessions ≡ with_phase who Committed old.ledger.sessions = ap (λ (l : Ledger). l.sessions) ledger in
     let there : IsStoreAfter new origin (after world event) = (
-      store_committed old new origin world.past who txn event stands.0 ledger same_count refl refl told truth,
+      store_committed old new origin world.past who txn event stands.0 ledger same_count refl refl known truth,
       subst H (sym sessions) (phases_committed old.ledger.sessions world who txn grants number stands.1 some is_so),
     ) in
     (Made, is, subst S is there)
 
 -- a reply of this fault tells of memory where the fault is its want
-memory_is : (fault : CommitFault) (txn : List Change) (grants : GrantsView) → tells_memory (reply.NotCommitted fault txn grants) ≡ true → fault ≡ faults.Memory
+memory_is : (fault : CommitFault) (txn : List Change) (grants : GrantsView) → tells_memory (Reply.NotCommitted fault txn grants) ≡ true → fault ≡ faults.Memory
 memory_is faults.Memory txn grants e = refl
 memory_is other txn grants e = absurd (false≢true e)
 
-no_memory : (fault : CommitFault) (txn : List Change) (grants : GrantsView) → tells_memory (reply.NotCommitted fault txn grants) ≡ false → fault ≢ faults.Memory
+no_memory : (fault : CommitFault) (txn : List Change) (grants : GrantsView) → tells_memory (Reply.NotCommitted fault txn grants) ≡ false → fault ≢ faults.Memory
 no_memory faults.Memory txn grants e = absurd (false≢true (sym e))
 no_memory faults.Ended txn grants e = λ z. cc
 no_memory (faults.Uncovered key) txn grants e = λ z. cc
@@ -407,54 +407,54 @@ no_memory (faults.Rejected index) txn grants e = λ z. cc
 no_memory faults.KeepFault txn grants e = λ z. cc
 
 -- so it is for a commit
-commit_tells : (old new : StoreView) (origin : Origin) (world : World) (who : Sid) (txn : List Change) (grants : GrantsView) (told : Reply)
+commit_tells : (old new : StoreView) (origin : Origin) (world : World) (who : Sid) (txn : List Change) (grants : GrantsView) (reply : Reply)
     (result : Result Reply Memory) → IsStoreAfter old origin world → 1 ≤ who.number → old.faults ≤ new.faults
-    → TellsCommit who txn grants old new told → GoesOn told result → MakesCall origin world who (wanted.Commit txn grants) new result
-commit_tells old new origin world who txn grants (reply.Committed number back kept) (Ok said) stands some more (same, held, made) on =
+    → TellsCommit who txn grants old new reply → GoesOn reply result → MakesCall origin world who (wanted.Commit txn grants) new result
+commit_tells old new origin world who txn grants (Reply.Committed number back kept) (Ok said) stands some more (same, held, made) on =
     let P : Reply → Type 0 = λ r. MakesCall origin world who (wanted.Commit txn grants) new (Ok r) in
-    let is : reply.Committed number back kept ≡ reply.Committed number txn grants = λ i. reply.Committed number (same i) (held i) in
+    let is : Reply.Committed number back kept ≡ Reply.Committed number txn grants = λ i. Reply.Committed number (same i) (held i) in
     subst P (sym (on.0 ∙ is)) (commit_made old new origin world who txn grants grants.items number stands some refl
-    made.admitted made.number_is made.goes.ledger_is made.goes.counted made.goes.told_before made.applied)
-commit_tells old new origin world who txn grants (reply.Committed number back kept) (Err memory) stands some more made on = absurd (false≢true on)
-commit_tells old new origin world who txn grants (reply.NotCommitted fault back kept) (Ok said) stands some more (same, held, made) on =
+    made.admitted made.number_is made.goes.ledger_is made.goes.counted made.goes.known_before made.applied)
+commit_tells old new origin world who txn grants (Reply.Committed number back kept) (Err memory) stands some more made on = absurd (false≢true on)
+commit_tells old new origin world who txn grants (Reply.NotCommitted fault back kept) (Ok said) stands some more (same, held, made) on =
     let P : Reply → Type 0 = λ r. MakesCall origin world who (wanted.Commit txn grants) new (Ok r) in
-    let is : reply.NotCommitted fault back kept ≡ reply.NotCommitted fault txn grants = λ i. reply.NotCommitted fault (same i) (held i) in
+    let is : Reply.NotCommitted fault back kept ≡ Reply.NotCommitted fault txn grants = λ i. Reply.NotCommitted fault (same i) (held i) in
     subst P (sym (on.0 ∙ is)) (commit_refused old new origin world who txn grants grants.items fault stands some refl (no_memory fault back kept on.1)
-    made.refusal made.goes.ledger_is made.goes.counted more made.goes.told_before made.true_place)
-commit_tells old new origin world who txn grants (reply.NotCommitted fault back kept) (Err memory) stands some more (same, held, made) on =
+    made.refusal made.goes.ledger_is made.goes.counted more made.goes.known_before made.true_place)
+commit_tells old new origin world who txn grants (Reply.NotCommitted fault back kept) (Err memory) stands some more (same, held, made) on =
     let is = memory_is fault back kept on in
     let ledger : new.ledger ≡ old.ledger = made.goes.ledger_is ∙ ap (λ (f : CommitFault). with_call (is_failure f) old.ledger) is in
     let counted : new.faults ≡ old.faults = subst (λ (f : CommitFault). Counts (is_failure f) old.faults new.faults) is made.goes.counted in
-    call_unmade old new origin world stands ledger counted made.goes.told_before
+    call_unmade old new origin world stands ledger counted made.goes.known_before
 commit_tells old new origin world who txn grants other result stands some more made on = absurd made
 
 -- so it is for an end
-end_made : (old new : StoreView) (origin : Origin) (world : World) (who : Sid) (told : Reply) (result : Result Reply Memory)
-    → IsStoreAfter old origin world → 1 ≤ who.number → TellsEnd who old new told → GoesOn told result → MakesCall origin world who wanted.End new result
-end_made old new origin world who (reply.End was) (Ok said) stands some (is, goes) on =
+end_made : (old new : StoreView) (origin : Origin) (world : World) (who : Sid) (reply : Reply) (result : Result Reply Memory)
+    → IsStoreAfter old origin world → 1 ≤ who.number → TellsEnd who old new reply → GoesOn reply result → MakesCall origin world who wanted.End new result
+end_made old new origin world who (Reply.End was) (Ok said) stands some (is, goes) on =
     let was_open = is_open world who in
     let sessions : new.ledger.sessions ≡ ended who old.ledger.sessions = ap (λ (l : Ledger). l.sessions) goes.ledger_is in
-    let event : Event = Called who wanted.End (reply.End was_open) in
+    let event : Event = Called who wanted.End (Reply.End was_open) in
     let P : List Phase → Type 0 = λ xs. HasPhases xs (after world event) in (
       Failed,
-      on.0 ∙ ap reply.End (is ∙ stands.1.opens who some),
+      on.0 ∙ ap Reply.End (is ∙ stands.1.opens who some),
       (
-        store_ended old new origin world.past who event stands.0 goes.ledger_is goes.told_before goes.counted refl refl (λ rows. tt),
+        store_ended old new origin world.past who event stands.0 goes.ledger_is goes.known_before goes.counted refl refl (λ rows. tt),
         subst P (sym sessions) (phases_ended old.ledger.sessions world who stands.1 some),
       ),
     )
-end_made old new origin world who (reply.End was) (Err memory) stands some made on = absurd (false≢true on)
+end_made old new origin world who (Reply.End was) (Err memory) stands some made on = absurd (false≢true on)
 end_made old new origin world who other result stands some made on = absurd made
 
 -- what the executor made of the store is the event of the request
-pub call_is : (old new : StoreView) (origin : Origin) (world : World) (who : Sid) (request : Wanted) (told : Reply) (result : Result Reply Memory)
-    → IsStoreAfter old origin world → 1 ≤ who.number → old.faults ≤ new.faults → MakesAtStore old who request new told → GoesOn told result
+pub call_is : (old new : StoreView) (origin : Origin) (world : World) (who : Sid) (request : Wanted) (reply : Reply) (result : Result Reply Memory)
+    → IsStoreAfter old origin world → 1 ≤ who.number → old.faults ≤ new.faults → MakesAtStore old who request new reply → GoesOn reply result
     → MakesCall origin world who request new result
-call_is old new origin world who (wanted.Ask key) told result stands some more made on =
-    ask_made old new origin world who key told result stands more made on
-call_is old new origin world who (wanted.Staged key txn) told result stands some more made on =
-    staged_made old new origin world who key txn told result stands more made on
-call_is old new origin world who (wanted.Commit txn grants) told result stands some more made on =
-    commit_tells old new origin world who txn grants told result stands some more made on
-call_is old new origin world who wanted.End told result stands some more made on = end_made old new origin world who told result stands some made on
-call_is old new origin world who other told result stands some more made on = absurd made
+call_is old new origin world who (wanted.Ask key) reply result stands some more made on =
+    ask_made old new origin world who key reply result stands more made on
+call_is old new origin world who (wanted.Staged key txn) reply result stands some more made on =
+    staged_made old new origin world who key txn reply result stands more made on
+call_is old new origin world who (wanted.Commit txn grants) reply result stands some more made on =
+    commit_tells old new origin world who txn grants reply result stands some more made on
+call_is old new origin world who wanted.End reply result stands some more made on = end_made old new origin world who reply result stands some made on
+call_is old new origin world who other reply result stands some more made on = absurd made

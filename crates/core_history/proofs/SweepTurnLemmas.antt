@@ -14,11 +14,11 @@ use Rattle.key_shard.specs.declared.steps.Step.TheVariants as step
 use Rattle.key_shard.specs.Dues.{due_now, due_by, sooner, first_of, first_due}
 use Rattle.key_shard.specs.Past.{Terms, standing, quar_of, next_token}
 use Rattle.key_shard.specs.Answers.{IsAtHome, IsLegalPast}
-use Rattle.key_shard.specs.Replies.{sweep_told}
+use Rattle.key_shard.specs.Replies.{sweep_answer}
 use Rattle.key_shard.proofs.LegalLemmas.{own_token}
 use Rattle.key_shard.proofs.SweepLemmas.{sweep_by}
 use Rattle.sql_keeper.specs.declared.stores.Closed.{Closed}
-use Rattle.expiry_sweeper.specs.Sweeps.{sweep_wants, shard_at, scan_told}
+use Rattle.expiry_sweeper.specs.Sweeps.{sweep_wants, shard_at, scan_reply}
 use Rattle.expiry_sweeper.specs.declared.replies.SweepReply.{SweepReply}
 use Rattle.expiry_sweeper.specs.declared.replies.SweepReply.TheVariants as sweeps
 use Rattle.expiry_sweeper.specs.declared.replies.SweepWanted.{SweepWanted}
@@ -36,20 +36,20 @@ use Rattle.core_history.proofs.InnerLemmas.{Inner, with_event, scanned-inner, en
 use Rattle.core_history.proofs.WritingLemmas.{open-uncommitted, shut-closed}
 
 -- what a sweeper wants: a scan, the end of the session of what was found, or the drop of what was found once its session was ended
-pub sweep_cases : (P : SweepWanted → Type 0) (shards : ℕ) (told : List SweepReply) → ((place : ℕ) → P (sweep.Scan place))
-    → ((at : ℕ) (due : Due) (before : List SweepReply) → told ≡ sweeps.Found at due ∷ before → P (sweep.End due.sid))
-    → ((at : ℕ) (due : Due) (closing : Closed) (before : List SweepReply) → told ≡ sweeps.Ended closing ∷ sweeps.Found at due ∷ before
+pub sweep_cases : (P : SweepWanted → Type 0) (shards : ℕ) (replies : List SweepReply) → ((place : ℕ) → P (sweep.Scan place))
+    → ((at : ℕ) (due : Due) (before : List SweepReply) → replies ≡ sweeps.Found at due ∷ before → P (sweep.End due.sid))
+    → ((at : ℕ) (due : Due) (closing : Closed) (before : List SweepReply) → replies ≡ sweeps.Ended closing ∷ sweeps.Found at due ∷ before
     → P (sweep.Drop due.key due.token))
-    → P (sweep_wants shards told)
+    → P (sweep_wants shards replies)
 sweep_cases P shards [] scan end drop = scan 0
-sweep_cases P shards (sweeps.Found at due ∷ told) scan end drop = end at due told refl
-sweep_cases P shards (sweeps.Dropped rel ∷ told) scan end drop = scan (shard_at shards told)
-sweep_cases P shards (sweeps.NoneFound at ∷ told) scan end drop = scan (shard_at shards (sweeps.NoneFound at ∷ told))
+sweep_cases P shards (sweeps.Found at due ∷ replies) scan end drop = end at due replies refl
+sweep_cases P shards (sweeps.Dropped rel ∷ replies) scan end drop = scan (shard_at shards replies)
+sweep_cases P shards (sweeps.NoneFound at ∷ replies) scan end drop = scan (shard_at shards (sweeps.NoneFound at ∷ replies))
 sweep_cases P shards (sweeps.Ended closing ∷ []) scan end drop = scan (shard_at shards [])
-sweep_cases P shards (sweeps.Ended closing ∷ sweeps.Found at due ∷ told) scan end drop = drop at due closing told refl
-sweep_cases P shards (sweeps.Ended closing ∷ sweeps.Ended before ∷ told) scan end drop = scan (shard_at shards (sweeps.Ended before ∷ told))
-sweep_cases P shards (sweeps.Ended closing ∷ sweeps.Dropped rel ∷ told) scan end drop = scan (shard_at shards (sweeps.Dropped rel ∷ told))
-sweep_cases P shards (sweeps.Ended closing ∷ sweeps.NoneFound at ∷ told) scan end drop = scan (shard_at shards (sweeps.NoneFound at ∷ told))
+sweep_cases P shards (sweeps.Ended closing ∷ sweeps.Found at due ∷ replies) scan end drop = drop at due closing replies refl
+sweep_cases P shards (sweeps.Ended closing ∷ sweeps.Ended before ∷ replies) scan end drop = scan (shard_at shards (sweeps.Ended before ∷ replies))
+sweep_cases P shards (sweeps.Ended closing ∷ sweeps.Dropped rel ∷ replies) scan end drop = scan (shard_at shards (sweeps.Dropped rel ∷ replies))
+sweep_cases P shards (sweeps.Ended closing ∷ sweeps.NoneFound at ∷ replies) scan end drop = scan (shard_at shards (sweeps.NoneFound at ∷ replies))
 
 -- what is told as due is a quarantine that stands on a key of this shard, with its session
 pub record StandsFor (terms : Terms) (past : List Step) (due : Due) : Type 0 where
@@ -150,34 +150,34 @@ scan-turn : (shape : Shape) (world : World) (place : ℕ) → Inner shape world 
 scan-turn shape world place inner = by (first_due (now_of world.past) (steps_of place world.past)) refl
   where
     by : (o : Option Due) → first_due (now_of world.past) (steps_of place world.past) ≡ o
-        → Inner shape (with_event world (Swept place (sweep.Scan place) None (scan_told place o)))
-        × IsGoodEvent shape world.past (Swept place (sweep.Scan place) None (scan_told place o))
+        → Inner shape (with_event world (Swept place (sweep.Scan place) None (scan_reply place o)))
+        × IsGoodEvent shape world.past (Swept place (sweep.Scan place) None (scan_reply place o))
     by None e = (scanned-inner shape world place (sweeps.NoneFound place) inner tt, (tt, tt))
     by (Some due) e = (scanned-inner shape world place (sweeps.Found place due) inner (due-of shape world place due inner e), (tt, tt))
 
 -- the session of what was found is ended: it is closed then
 end-turn : (shape : Shape) (world : World) (at : ℕ) (due : Due) (before : List SweepReply)
     → Inner shape world → sweeps_of world.past ≡ sweeps.Found at due ∷ before → AfterSweep shape world (sweep.End due.sid)
-end-turn shape world at due before inner told = by (is_open world who) refl
+end-turn shape world at due before inner same = by (is_open world who) refl
   where
     who : Sid
     who = due.sid
 
     is : IsDueOf shape world.plans world.past due
-    is = subst (IsSweeping shape world.plans world.past) told inner.sweeping
+    is = subst (IsSweeping shape world.plans world.past) same inner.sweeping
 
     event : Bool → Event
     event b = Swept 0 (sweep.End who) None (ended_as who b)
 
     by : (b : Bool) → is_open world who ≡ b → Inner shape (with_event world (event b)) × IsGoodEvent shape world.past (event b)
     by true still = (
-      ended-inner shape world who true at due before inner told
+      ended-inner shape world who true at due before inner same
           (or_inr (has_committed who.number (event true ∷ world.past)) (was_ended who.number (event true ∷ world.past))
           (or_inl (who.number == who.number) (was_ended who.number world.past) (eq-eqb who.number who.number refl))),
       (tt, λ logged. not_both (logged-committed who.number world.past logged) (open-uncommitted world who still)),
     )
     by false shut = (
-      ended-inner shape world who false at due before inner told
+      ended-inner shape world who false at due before inner same
           (closed-more who.number (event false) world.past (shut-closed world who is.plan is.at is.may shut)),
       (tt, tt),
     )
@@ -186,7 +186,7 @@ end-turn shape world at due before inner told = by (is_open world who) refl
 drop-turn : (shape : Shape) (world : World) (at : ℕ) (due : Due) (closing : Closed) (before : List SweepReply)
     → Inner shape world → sweeps_of world.past ≡ sweeps.Ended closing ∷ sweeps.Found at due ∷ before
     → AfterSweep shape world (sweep.Drop due.key due.token)
-drop-turn shape world at due closing before inner told = by (quar_of due.key due.token steps) refl
+drop-turn shape world at due closing before inner same = by (quar_of due.key due.token steps) refl
   where
     home : ℕ
     home = shard_of due.key shape.shards
@@ -195,10 +195,10 @@ drop-turn shape world at due closing before inner told = by (quar_of due.key due
     steps = steps_of home world.past
 
     is : IsDueOf shape world.plans world.past due × (closed due.sid.number world.past ≡ true)
-    is = subst (IsSweeping shape world.plans world.past) told inner.sweeping
+    is = subst (IsSweeping shape world.plans world.past) same inner.sweeping
 
     event : Option Step → Event
-    event made = Swept home (sweep.Drop due.key due.token) made (sweeps.Dropped (sweep_told made))
+    event made = Swept home (sweep.Drop due.key due.token) made (sweeps.Dropped (sweep_answer made))
 
     by : (o : Option Quar) → quar_of due.key due.token steps ≡ o
         → Inner shape (with_event world (event (sweep_by due.key due.token o))) × IsGoodEvent shape world.past (event (sweep_by due.key due.token o))
@@ -220,5 +220,5 @@ drop-turn shape world at due closing before inner told = by (quar_of due.key due
 pub sweep-turn : (shape : Shape) (world : World) → Inner shape world → AfterSweep shape world (swept_next shape world)
 sweep-turn shape world inner =
     sweep_cases (AfterSweep shape world) shape.shards (sweeps_of world.past) (λ place. scan-turn shape world place inner)
-    (λ at due before told. end-turn shape world at due before inner told)
-    (λ at due closing before told. drop-turn shape world at due closing before inner told)
+    (λ at due before heard_so. end-turn shape world at due before inner heard_so)
+    (λ at due closing before heard_so. drop-turn shape world at due closing before inner heard_so)

@@ -27,25 +27,25 @@ pub record IsDueOf (shape : Shape) (plans : List Plan) (past : List Event) (due 
 
 -- where the sweeper was told last of what a scan found, that is due, and is closed where the sweeper has ended it
 abbrev pub IsSweeping : Shape → List Plan → List Event → List SweepReply → Type 0
-IsSweeping shape plans past (sweeps.Found at due ∷ told) = IsDueOf shape plans past due
-IsSweeping shape plans past (sweeps.Ended closing ∷ sweeps.Found at due ∷ told) = IsDueOf shape plans past due × (closed due.sid.number past ≡ true)
-IsSweeping shape plans past told = Unit {0}
+IsSweeping shape plans past (sweeps.Found at due ∷ replies) = IsDueOf shape plans past due
+IsSweeping shape plans past (sweeps.Ended closing ∷ sweeps.Found at due ∷ replies) = IsDueOf shape plans past due × (closed due.sid.number past ≡ true)
+IsSweeping shape plans past replies = Unit {0}
 
 -- a quarantine that stands after an event, of a token that was drawn before it, stood before it, and was the same session's
 pub quar-before : (shape : Shape) (event : Event) (past : List Event) (key : QKey) (token : ℕ) (quar : Quar) → DrawsLate shape past event
     → token < next_token (terms_of shape (shard_of key shape.shards)) (steps_of (shard_of key shape.shards) past)
     → quar_of key token (steps_of (shard_of key shape.shards) (event ∷ past)) ≡ Some quar
     → StandsAs key token (steps_of (shard_of key shape.shards) past) quar
-quar-before shape (Stepped place who request s told) past key token quar late low =
+quar-before shape (Stepped place who request s reply) past key token quar late low =
     let home = shard_of key shape.shards in
     let steps = steps_of home past in
     maybe-step (λ l. quar_of key token l ≡ Some quar
     → StandsAs key token steps quar) (place == home) s steps (λ _. quar-was s key token steps quar (late key token low).1) (λ _ h. (quar, h, refl))
-quar-before shape (Called who request told) past key token quar late low = λ h. (quar, h, refl)
+quar-before shape (Called who request reply) past key token quar late low = λ h. (quar, h, refl)
 quar-before shape (Ticked now) past key token quar late low = λ h. (quar, h, refl)
-quar-before shape (Swept place request None told) past key token quar late low = λ h.
-    (quar, sym (ap (quar_of key token) (unmade-steps (shard_of key shape.shards) place request told past)) ∙ h, refl)
-quar-before shape (Swept place request (Some s) told) past key token quar late low =
+quar-before shape (Swept place request None reply) past key token quar late low = λ h.
+    (quar, sym (ap (quar_of key token) (unmade-steps (shard_of key shape.shards) place request reply past)) ∙ h, refl)
+quar-before shape (Swept place request (Some s) reply) past key token quar late low =
     let home = shard_of key shape.shards in
     let steps = steps_of home past in
     maybe-step (λ l. quar_of key token l ≡ Some quar
@@ -66,15 +66,15 @@ due-more shape plans event past due late h =
       may = h.may;
     }
 
-pub sweeping-more : (shape : Shape) (plans : List Plan) (event : Event) (past : List Event) (told : List SweepReply)
-    → DrawsLate shape past event → IsSweeping shape plans past told
-    → IsSweeping shape plans (event ∷ past) told
+pub sweeping-more : (shape : Shape) (plans : List Plan) (event : Event) (past : List Event) (replies : List SweepReply)
+    → DrawsLate shape past event → IsSweeping shape plans past replies
+    → IsSweeping shape plans (event ∷ past) replies
 sweeping-more shape plans event past [] late h = tt
-sweeping-more shape plans event past (sweeps.Found at due ∷ told) late h = due-more shape plans event past due late h
-sweeping-more shape plans event past (sweeps.Ended closing ∷ sweeps.Found at due ∷ told) late h =
+sweeping-more shape plans event past (sweeps.Found at due ∷ replies) late h = due-more shape plans event past due late h
+sweeping-more shape plans event past (sweeps.Ended closing ∷ sweeps.Found at due ∷ replies) late h =
     (due-more shape plans event past due late h.0, closed-more due.sid.number event past h.1)
 sweeping-more shape plans event past (sweeps.Ended closing ∷ other) late h = tt
-sweeping-more shape plans event past (other ∷ told) late h = tt
+sweeping-more shape plans event past (other ∷ replies) late h = tt
 
 -- with one plan more
 due-begun : (shape : Shape) (plans : List Plan) (more : Plan) (past : List Event) (due : Due)
@@ -82,10 +82,10 @@ due-begun : (shape : Shape) (plans : List Plan) (more : Plan) (past : List Event
 due-begun shape plans more past due h =
     record { drawn = h.drawn; mine = h.mine; plan = h.plan; at = plan-stays due.sid.number plans more h.plan h.at; may = h.may }
 
-pub sweeping-begun : (shape : Shape) (plans : List Plan) (more : Plan) (past : List Event) (told : List SweepReply) → IsSweeping shape plans past told
-    → IsSweeping shape (plans ++ more ∷ []) past told
+pub sweeping-begun : (shape : Shape) (plans : List Plan) (more : Plan) (past : List Event) (replies : List SweepReply) → IsSweeping shape plans past replies
+    → IsSweeping shape (plans ++ more ∷ []) past replies
 sweeping-begun shape plans more past [] h = tt
-sweeping-begun shape plans more past (sweeps.Found at due ∷ told) h = due-begun shape plans more past due h
-sweeping-begun shape plans more past (sweeps.Ended closing ∷ sweeps.Found at due ∷ told) h = (due-begun shape plans more past due h.0, h.1)
+sweeping-begun shape plans more past (sweeps.Found at due ∷ replies) h = due-begun shape plans more past due h
+sweeping-begun shape plans more past (sweeps.Ended closing ∷ sweeps.Found at due ∷ replies) h = (due-begun shape plans more past due h.0, h.1)
 sweeping-begun shape plans more past (sweeps.Ended closing ∷ other) h = tt
-sweeping-begun shape plans more past (other ∷ told) h = tt
+sweeping-begun shape plans more past (other ∷ replies) h = tt

@@ -14,26 +14,26 @@ use Rattle.session_client.specs.declared.sessions.Session.{Session}
 use Rattle.session_client.specs.Follows.{Follows}
 use Rattle.executor.specs.Requests.{request_of}
 use Rattle.executor.specs.declared.requests.Request.{Request}
-use Rattle.core_history.specs.declared.told.Told.{Told}
+use Rattle.core_history.specs.declared.turn_lines.TurnLine.{TurnLine}
 use Rattle.core_history.specs.Cores.{Origin}
-use Rattle.core_history.specs.Events.{Event, Stepped, Called, reply_in, told_by, told_in, swept_in, now_of}
+use Rattle.core_history.specs.Events.{Event, Stepped, Called, reply_in, heard_from, heard_in, swept_in, now_of}
 use Rattle.core_history.specs.Lines.{line, request_words, reply_words, turn_words, event_words, line_of, tells_fault, is_fault}
 use Rattle.core_history.specs.Machine.{World, Said, event_of}
 use Rattle.core_history.specs.Requests.{Makes, TakesTurn}
 
 -- the event is a turn of this session, in which it made this request: it is told, and nobody else is, and neither clock nor sweeper moves
 pub record IsTurn (who : Sid) (request : Wanted) (event : Event) : Type 0 where
-  pub told : (number : ℕ) → told_in number event ≡ told_by number who (reply_in event)
+  pub replies_are : (number : ℕ) → heard_in number event ≡ heard_from number who (reply_in event)
   pub words : event_words event ≡ turn_words who request (reply_in event)
   pub fault : is_fault event ≡ tells_fault (reply_in event)
   pub swept : swept_in event ≡ []
   pub clock : (past : List Event) → now_of (event ∷ past) ≡ now_of past
 
-stepped_turn : (who : Sid) (request : Wanted) (place : ℕ) (made : Step) (told : Reply) → IsTurn who request (Stepped place who request made told)
-stepped_turn who request place made told = record { told = λ number. refl; words = refl; fault = refl; swept = refl; clock = λ past. refl }
+stepped_turn : (who : Sid) (request : Wanted) (place : ℕ) (made : Step) (reply : Reply) → IsTurn who request (Stepped place who request made reply)
+stepped_turn who request place made reply = record { replies_are = λ number. refl; words = refl; fault = refl; swept = refl; clock = λ past. refl }
 
-called_turn : (who : Sid) (request : Wanted) (told : Reply) → IsTurn who request (Called who request told)
-called_turn who request told = record { told = λ number. refl; words = refl; fault = refl; swept = refl; clock = λ past. refl }
+called_turn : (who : Sid) (request : Wanted) (reply : Reply) → IsTurn who request (Called who request reply)
+called_turn who request reply = record { replies_are = λ number. refl; words = refl; fault = refl; swept = refl; clock = λ past. refl }
 
 -- the event of a request is such a turn
 pub event_turn : (shape : Shape) (world : World) (who : Sid) (request : Wanted) (said : Said) → IsTurn who request (event_of shape world who request said)
@@ -65,18 +65,18 @@ line_is event who request reply asked turn reply_is bare =
     ∙ ap line (sym turn.words)
 
 -- a request was made, its line written, and its session told
-pub turn_told : (origin : Origin) (world : World) (who : Sid) (request : Wanted) (asked : Request) (heard : List Reply) (shards : List ShardView)
-    (store : StoreView) (session : Session) (reply : Reply) (text : Result (Vec ℕ Global) Memory) (fault : Bool) (told : Result Told Memory) →
+pub turn_printed : (origin : Origin) (world : World) (who : Sid) (request : Wanted) (asked : Request) (heard : List Reply) (shards : List ShardView)
+    (store : StoreView) (session : Session) (reply : Reply) (text : Result (Vec ℕ Global) Memory) (fault : Bool) (printed : Result TurnLine Memory) →
     asked ≡ request_of request → IfOk text (λ t. t.items ≡ line (decimal who.number ∷ request_words asked ++ reply_words reply))
-    → fault ≡ tells_fault reply → IfOk told (λ t. (text ≡ Ok t.line) × (t.fault ≡ fault)) →
+    → fault ≡ tells_fault reply → IfOk printed (λ t. (text ≡ Ok t.line) × (t.fault ≡ fault)) →
     Makes origin world who request shards store (Ok reply) → Follows session false (reply ∷ heard)
-    → TakesTurn origin world who request heard shards store session told
-turn_told origin world who request asked heard shards store session reply text fault (Ok told) bare written faulty is made next =
+    → TakesTurn origin world who request heard shards store session printed
+turn_printed origin world who request asked heard shards store session reply text fault (Ok turn_line) bare written faulty is made next =
     let event = event_of origin.shape world who request made.0 in
     let T : Result (Vec ℕ Global) Memory → Type 0 = λ r. IfOk r (λ t. t.items ≡ line (decimal who.number ∷ request_words asked ++ reply_words reply)) in
     let F : Reply → Type 0 = λ r. Follows session false (r ∷ heard) in
     let turn = event_turn origin.shape world who request made.0 in
-    let printed : told.line.items ≡ line_of event = subst T is.0 written ∙ line_is event who request reply asked turn made.1 bare in
+    let printed : turn_line.line.items ≡ line_of event = subst T is.0 written ∙ line_is event who request reply asked turn made.1 bare in
     (made.0, (printed, is.1 ∙ faulty ∙ ap tells_fault made.1 ∙ sym turn.fault), made.2, subst F made.1 next)
-turn_told origin world who request asked heard shards store session reply text fault (Err memory) bare written faulty is made next =
+turn_printed origin world who request asked heard shards store session reply text fault (Err memory) bare written faulty is made next =
     inr (made.0, made.2)

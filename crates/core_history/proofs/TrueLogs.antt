@@ -20,9 +20,9 @@ use Rattle.key_freshness.specs.Held.{LeavesUntouched, MakesNext}
 use Rattle.key_freshness.specs.Known.{StandsAt}
 use Rattle.key_freshness.proofs.KnownLemmas.{stands-within}
 use Rattle.session_client.specs.declared.replies.Reply.{Reply}
-use Rattle.session_client.specs.declared.replies.Reply.TheVariants as reply
+use Rattle.session_client.specs.declared.replies.Reply.TheVariants as Reply
 use Rattle.session_client.specs.declared.replies.Wanted.{Wanted}
-use Rattle.core_history.specs.Events.{Event, Stepped, Called, Ticked, Swept, commits_told, commits_in, log_of}
+use Rattle.core_history.specs.Events.{Event, Stepped, Called, Ticked, Swept, commits_of_reply, commits_in, log_of}
 use Rattle.core_history.specs.Truth.{IsTrueReply, IsTrueEvent, IsTruePast}
 use Rattle.core_history.proofs.LogLemmas.{state-more, state-whole, get-within, get-pushed}
 
@@ -45,21 +45,21 @@ pub record IsTrueLog (opening : Tables) (log : List Commit) : Type 0 where
 abbrev IsOldOrApplied : Tables → List Commit → ℕ → Commit → Type 0
 IsOldOrApplied rows log place commit = StandsAt log place commit ⊎ ((place ≡ length log) × Applies commit.txn rows)
 
-told_applied : (rows : Tables) (log : List Commit) (who : Sid) (request : Wanted) (told : Reply) (place : ℕ) (commit : Commit) → IsTrueReply rows request told
-    → StandsAt (log ++ commits_told who told) place commit → IsOldOrApplied rows log place commit
-told_applied rows log who request (reply.Committed number txn grants) place commit word at =
+applied_reply : (rows : Tables) (log : List Commit) (who : Sid) (request : Wanted) (reply : Reply) (place : ℕ) (commit : Commit) → IsTrueReply rows request reply
+    → StandsAt (log ++ commits_of_reply who reply) place commit → IsOldOrApplied rows log place commit
+applied_reply rows log who request (Reply.Committed number txn grants) place commit word at =
     ⊎_elim
     (λ old. inl old)
     (λ last. inr (last.0, subst (λ (c : Commit). Applies c.txn rows) last.1 (record { after = word.0; is = word.1 })))
     (get-pushed log (record { sid = who; txn = txn }) commit place at)
-told_applied rows log who request other place commit word at = inl (subst (λ l. StandsAt l place commit) (append-nil log) at)
+applied_reply rows log who request other place commit word at = inl (subst (λ l. StandsAt l place commit) (append-nil log) at)
 
 event_applied : (rows : Tables) (log : List Commit) (event : Event) (place : ℕ) (commit : Commit) → IsTrueEvent rows event
     → StandsAt (log ++ commits_in event) place commit → IsOldOrApplied rows log place commit
-event_applied rows log (Stepped shard who request step told) place commit word at = told_applied rows log who request told place commit word at
-event_applied rows log (Called who request told) place commit word at = told_applied rows log who request told place commit word at
+event_applied rows log (Stepped shard who request step reply) place commit word at = applied_reply rows log who request reply place commit word at
+event_applied rows log (Called who request reply) place commit word at = applied_reply rows log who request reply place commit word at
 event_applied rows log (Ticked now) place commit word at = inl (subst (λ l. StandsAt l place commit) (append-nil log) at)
-event_applied rows log (Swept shard request made told) place commit word at = inl (subst (λ l. StandsAt l place commit) (append-nil log) at)
+event_applied rows log (Swept shard request made reply) place commit word at = inl (subst (λ l. StandsAt l place commit) (append-nil log) at)
 
 -- each transaction applied where its commit was told
 pub true_applied : (opening : Tables) (past : List Event) → IsTruePast opening past → (place : ℕ) (commit : Commit) → StandsAt (log_of past) place commit

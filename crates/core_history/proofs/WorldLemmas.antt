@@ -12,11 +12,11 @@ use Rattle.session_client.specs.declared.plans.Shape.{Shape}
 use Rattle.session_client.specs.declared.plans.Turn.{Turn}
 use Rattle.session_client.specs.declared.plans.Turn.TheVariants as turn
 use Rattle.session_client.specs.declared.replies.Reply.{Reply}
-use Rattle.session_client.specs.declared.replies.Reply.TheVariants as reply
+use Rattle.session_client.specs.declared.replies.Reply.TheVariants as Reply
 use Rattle.session_client.specs.declared.replies.Wanted.TheVariants as wanted
 use Rattle.session_client.specs.Wants.{given, granted, is_had, is_release, was_committed, number_of, writing_of}
 use Rattle.session_client.proofs.WantCases.{plan-once, is_ending}
-use Rattle.core_history.specs.Events.{Event, Called, steps_of, told_to, log_of, sweeps_of}
+use Rattle.core_history.specs.Events.{Event, Called, steps_of, heard_by, log_of, sweeps_of}
 use Rattle.core_history.specs.Machine.{World, Move, Begin, Take, Said, start, world_of, with_plan, taken, later, turn_event, terms_of, plan_at, wanted_by}
 use Rattle.core_history.proofs.GrantFacts.{IsDrawnBelow}
 use Rattle.core_history.proofs.ListLemmas.{zero_if, count-cons, not_both, every-weaker}
@@ -38,37 +38,37 @@ session-turn : (shape : Shape) (world : World) (who : Sid) (said : Said) → Inn
 session-turn shape world who said inner = by (plan_at who.number world.plans) refl
   where
     heard : List Reply
-    heard = told_to who.number world.past
+    heard = heard_by who.number world.past
 
     S : Option Plan → Type 0
     S plan = IsSession shape world.past who.number heard plan
 
     T : Event → Reply → Option Plan → Type 0
-    T event told plan = IsSession shape (event ∷ world.past) who.number (told ∷ heard) plan
+    T event reply plan = IsSession shape (event ∷ world.past) who.number (reply ∷ heard) plan
 
     by : (plan : Option Plan) → plan_at who.number world.plans ≡ plan → After shape world who said (wanted_by plan heard)
     by None is =
         idle-turn shape world who said inner
-        (subst (T (Called who wanted.Nothing reply.Nothing) reply.Nothing) (sym is) (tt, subst S is (inner.sessions who.number)))
+        (subst (T (Called who wanted.Nothing Reply.Nothing) Reply.Nothing) (sym is) (tt, subst S is (inner.sessions who.number)))
     by (Some (Read key floor)) is = read-turn shape world who said key floor inner is
     by (Some (Write mode txn)) is =
         write-turn shape world who said (Write mode txn) inner
-        (record { at = is; may = refl; writer = subst S is (inner.sessions who.number); stays = λ event told w. subst (T event told) (sym is) w })
+        (record { at = is; may = refl; writer = subst S is (inner.sessions who.number); stays = λ event reply w. subst (T event reply) (sym is) w })
     by (Some (Look mode key txn)) is =
         write-turn shape world who said (Look mode key txn) inner
-        (record { at = is; may = refl; writer = subst S is (inner.sessions who.number); stays = λ event told w. subst (T event told) (sym is) w })
+        (record { at = is; may = refl; writer = subst S is (inner.sessions who.number); stays = λ event reply w. subst (T event reply) (sym is) w })
     by (Some (Quit mode txn)) is =
         write-turn shape world who said (Quit mode txn) inner
-        (record { at = is; may = refl; writer = subst S is (inner.sessions who.number); stays = λ event told w. subst (T event told) (sym is) w })
+        (record { at = is; may = refl; writer = subst S is (inner.sessions who.number); stays = λ event reply w. subst (T event reply) (sym is) w })
     by (Some (Skip key txn)) is =
         write-turn shape world who said (Skip key txn) inner
-        (record { at = is; may = refl; writer = subst S is (inner.sessions who.number); stays = λ event told w. subst (T event told) (sym is) w })
+        (record { at = is; may = refl; writer = subst S is (inner.sessions who.number); stays = λ event reply w. subst (T event reply) (sym is) w })
     by (Some (Raise txn)) is =
         write-turn shape world who said (Raise txn) inner
-        (record { at = is; may = refl; writer = subst S is (inner.sessions who.number); stays = λ event told w. subst (T event told) (sym is) w })
+        (record { at = is; may = refl; writer = subst S is (inner.sessions who.number); stays = λ event reply w. subst (T event reply) (sym is) w })
     by (Some (Renew mode txn)) is =
         write-turn shape world who said (Renew mode txn) inner
-        (record { at = is; may = refl; writer = subst S is (inner.sessions who.number); stays = λ event told w. subst (T event told) (sym is) w })
+        (record { at = is; may = refl; writer = subst S is (inner.sessions who.number); stays = λ event reply w. subst (T event reply) (sym is) w })
 
 -- so does every turn
 pub taken-inner : (shape : Shape) (world : World) (turn : Turn) (said : Said) → Inner shape world
@@ -78,30 +78,30 @@ taken-inner shape world (turn.Tick by) said inner = (ticked-inner shape world (l
 taken-inner shape world turn.Sweep said inner = sweep-turn shape world inner
 
 -- a session that was told nothing is as one of any plan
-idle-reply : (P : Reply → Type 0) → P reply.Nothing → (told : Reply) → IsIdle told → P told
-idle-reply P p reply.Nothing h = p
-idle-reply P p (reply.Got told) h = absurd h
-idle-reply P p (reply.Answer told) h = absurd h
-idle-reply P p (reply.Set told) h = absurd h
-idle-reply P p (reply.Quar told) h = absurd h
-idle-reply P p (reply.Staged value txn) h = absurd h
-idle-reply P p (reply.NotStaged fault txn) h = absurd h
-idle-reply P p (reply.Committed number txn grants) h = absurd h
-idle-reply P p (reply.NotCommitted fault txn grants) h = absurd h
-idle-reply P p (reply.End was) h = absurd h
-idle-reply P p (reply.Rel told) h = absurd h
-idle-reply P p (reply.SarBack grant) h = absurd h
-idle-reply P p (reply.Fault fault) h = absurd h
-idle-reply P p (reply.Raise told) h = absurd h
-idle-reply P p (reply.RaiseBack grant) h = absurd h
-idle-reply P p (reply.Renew grant told) h = absurd h
+idle-reply : (P : Reply → Type 0) → P Reply.Nothing → (reply : Reply) → IsIdle reply → P reply
+idle-reply P p Reply.Nothing h = p
+idle-reply P p (Reply.Got answer) h = absurd h
+idle-reply P p (Reply.Answer answer) h = absurd h
+idle-reply P p (Reply.Set answer) h = absurd h
+idle-reply P p (Reply.Quar answer) h = absurd h
+idle-reply P p (Reply.Staged value txn) h = absurd h
+idle-reply P p (Reply.NotStaged fault txn) h = absurd h
+idle-reply P p (Reply.Committed number txn grants) h = absurd h
+idle-reply P p (Reply.NotCommitted fault txn grants) h = absurd h
+idle-reply P p (Reply.End was) h = absurd h
+idle-reply P p (Reply.Rel answer) h = absurd h
+idle-reply P p (Reply.SarBack grant) h = absurd h
+idle-reply P p (Reply.Fault fault) h = absurd h
+idle-reply P p (Reply.Raise answer) h = absurd h
+idle-reply P p (Reply.RaiseBack grant) h = absurd h
+idle-reply P p (Reply.Renew grant answer) h = absurd h
 
 -- what a reply of Nothing leaves as it was is as at first
 idle-same : {X : Type 0} (f : List Reply → X) (heard : List Reply)
-    → ((rest : List Reply) → f (reply.Nothing ∷ rest) ≡ f rest) → AllByRecursion IsIdle heard → f heard ≡ f []
+    → ((rest : List Reply) → f (Reply.Nothing ∷ rest) ≡ f rest) → AllByRecursion IsIdle heard → f heard ≡ f []
 idle-same f [] same h = refl
-idle-same f (told ∷ heard) same h =
-    idle-reply (λ r. f (r ∷ heard) ≡ f heard) (same heard) told h.0 ∙ idle-same f heard same h.1
+idle-same f (reply ∷ heard) same h =
+    idle-reply (λ r. f (r ∷ heard) ≡ f heard) (same heard) reply h.0 ∙ idle-same f heard same h.1
 
 idle-given : (heard : List Reply) → AllByRecursion IsIdle heard → given heard ≡ []
 idle-given heard h = idle-same given heard (λ rest. append-nil (given rest)) h
@@ -112,17 +112,17 @@ idle-grants heard h = idle-same granted heard (λ rest. append-nil (granted rest
 pub idle-ever : (heard : List Reply) → AllByRecursion IsIdle heard → ever heard ≡ []
 idle-ever heard h = idle-same ever heard (λ rest. append-nil (ever rest)) h
 
-idle-count : (p : Reply → Bool) (heard : List Reply) → p reply.Nothing ≡ false → AllByRecursion IsIdle heard → count_by p heard ≡ 0
+idle-count : (p : Reply → Bool) (heard : List Reply) → p Reply.Nothing ≡ false → AllByRecursion IsIdle heard → count_by p heard ≡ 0
 idle-count p heard e h =
-    idle-same (count_by p) heard (λ rest. let a = count-cons p reply.Nothing rest in let b = zero_if (p reply.Nothing) e in omega (arith, a, b)) h
+    idle-same (count_by p) heard (λ rest. let a = count-cons p Reply.Nothing rest in let b = zero_if (p Reply.Nothing) e in omega (arith, a, b)) h
 
 idle-ending : (heard : List Reply) → AllByRecursion IsIdle heard → is_ending heard ≡ false
 idle-ending [] h = refl
-idle-ending (told ∷ heard) h = idle-reply (λ r. is_ending (r ∷ heard) ≡ false) refl told h.0
+idle-ending (reply ∷ heard) h = idle-reply (λ r. is_ending (r ∷ heard) ≡ false) refl reply h.0
 
 idle-raises : (heard : List Reply) → AllByRecursion IsIdle heard → raises_last heard ≡ false
 idle-raises [] h = refl
-idle-raises (told ∷ heard) h = idle-reply (λ r. raises_last (r ∷ heard) ≡ false) refl told h.0
+idle-raises (reply ∷ heard) h = idle-reply (λ r. raises_last (r ∷ heard) ≡ false) refl reply h.0
 
 not_there : {X : Type 0} (i : ℕ) (x : X) → slice_get [] i ≡ Some x → ⊥
 not_there i x e = cc
@@ -159,7 +159,7 @@ idle-writer shape past n heard plan h =
 
 idle-holding : (key : QKey) (n : ℕ) (past : List Event) (heard : List Reply) → AllByRecursion IsIdle heard → IsHolding key n past heard
 idle-holding key n past [] h = tt
-idle-holding key n past (told ∷ heard) h = idle-reply (λ r. IsHolding key n past (r ∷ heard)) tt told h.0
+idle-holding key n past (reply ∷ heard) h = idle-reply (λ r. IsHolding key n past (r ∷ heard)) tt reply h.0
 
 idle-session : (shape : Shape) (past : List Event) (n : ℕ) (heard : List Reply) (plan : Option Plan)
     → AllByRecursion IsIdle heard → IsSession shape past n heard plan
@@ -197,7 +197,7 @@ begun-inner shape world plan inner = record {
   quarantined = inner.quarantined;
   sweeping = sweeping-begun shape world.plans plan world.past (sweeps_of world.past) inner.sweeping;
   sessions = λ n.
-      let heard = told_to n world.past in
+      let heard = heard_by n world.past in
       let S : Option Plan → Type 0 = λ p. IsSession shape world.past n heard p in
       elim (plan_stays world.plans plan (n - 1)) [
         | inl same ↦ subst S (sym same) (inner.sessions n)

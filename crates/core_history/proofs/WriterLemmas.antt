@@ -26,7 +26,7 @@ use Rattle.sql_keeper.specs.declared.stores.Commit.{Commit}
 use Rattle.session_client.specs.Grants.{GrantsView}
 use Rattle.session_client.specs.declared.plans.Shape.{Shape}
 use Rattle.session_client.specs.declared.replies.Reply.{Reply}
-use Rattle.session_client.specs.declared.replies.Reply.TheVariants as reply
+use Rattle.session_client.specs.declared.replies.Reply.TheVariants as Reply
 use Rattle.session_client.specs.declared.replies.Wanted.{Wanted}
 use Rattle.session_client.specs.Plans.{mode_on}
 use Rattle.session_client.specs.Wants.{Writing, given, granted, is_had, is_release, is_turn, released}
@@ -39,7 +39,7 @@ use Rattle.core_history.proofs.EventLemmas.{closed, closed-more, ever}
 use Rattle.core_history.proofs.SessionLemmas.{Stood, Fits, Placed, Suits, found-mode, stands-granted, Writer, Keeps, Finds, IsDrawn, IsOld}
 use Rattle.core_history.proofs.SessionLemmas.{ReleasesNone, ReturnsGrant, IsLateDraw}
 use Rattle.core_history.proofs.SessionLemmas.{asking-going, finds-stepped, finds-none, finds-called}
-use Rattle.core_history.proofs.SessionLemmas.{maybe-step, late-draw, number-more, writer-more, writer-told, stood-stepped}
+use Rattle.core_history.proofs.SessionLemmas.{maybe-step, late-draw, number-more, writer-more, writer-heard, stood-stepped}
 use Rattle.core_history.proofs.SessionLemmas.{stood-granted, stood-new, stood-called, out-other}
 
 -- the event of a quarantine that is granted
@@ -53,9 +53,9 @@ granted_permit shape past who key mode =
     let home = shard_of key shape.shards in
     record { shard = home; key = key; sid = who; mode = mode; token = next_token (terms_of shape home) (steps_of home past) }
 
-abbrev pub granted_told : Shape → List Event → Sid → QKey → Mode → Reply
-granted_told shape past who key mode =
-    reply.Quar (quarantine.Granted (granted_permit shape past who key mode) (old_value mode (entry key (steps_of (shard_of key shape.shards) past))))
+abbrev pub granted_reply : Shape → List Event → Sid → QKey → Mode → Reply
+granted_reply shape past who key mode =
+    Reply.Quar (quarantine.Granted (granted_permit shape past who key mode) (old_value mode (entry key (steps_of (shard_of key shape.shards) past))))
 
 -- a quarantine that the session asked for is granted
 pub writer-granted : (shape : Shape) (past : List Event) (who : Sid)
@@ -64,7 +64,7 @@ pub writer-granted : (shape : Shape) (past : List Event) (who : Sid)
     → AllOfOwnToken (standing key (granted_step (terms_of shape (shard_of key shape.shards)) (steps_of (shard_of key shape.shards) past) key who mode shift now
     ∷ steps_of (shard_of key shape.shards) past))
     → Writer shape past who.number heard writing
-    → Writer shape (granted_event shape past who request key mode shift now ∷ past) who.number (granted_told shape past who key mode ∷ heard) writing
+    → Writer shape (granted_event shape past who request key mode shift now ∷ past) who.number (granted_reply shape past who key mode ∷ heard) writing
 writer-granted shape past who request key mode shift now heard writing none at in_mode asks distinct w =
     let n = who.number in
     let home = shard_of key shape.shards in
@@ -75,13 +75,13 @@ writer-granted shape past who request key mode shift now heard writing none at i
     let s = step.Granted key who mode shift now token deadline in
     let grant = granted_permit shape past who key mode in
     let old = old_value mode (entry key steps) in
-    let told = granted_told shape past who key mode in
-    let event = Stepped home who request s told in
+    let reply = granted_reply shape past who key mode in
+    let event = Stepped home who request s reply in
     let late : IsLateDraw shape past s = late-draw shape past home s (refl, refl) in
-    let keeps : Keeps shape event past n = λ g _ h. stood-granted shape home who request key who mode shift now token deadline told past none n g h in
-    let finds : Finds shape event past n = finds-stepped shape home who request s told past n tt late in
+    let keeps : Keeps shape event past n = λ g _ h. stood-granted shape home who request key who mode shift now token deadline reply past none n g h in
+    let finds : Finds shape event past n = finds-stepped shape home who request s reply past n tt late in
     let more = writer-more shape event past n heard writing finds keeps w in
-    let new = stood-new shape who request key mode shift now token deadline told past none in
+    let new = stood-new shape who request key mode shift now token deadline reply past none in
     let here_stands : list_any (is_of_permit grant) (standing key (s ∷ steps)) ≡ true = stands-granted key who mode token home shift deadline
     (standing key steps) in
     let fresh : (i : ℕ) (g : Permit) → slice_get (granted heard) i ≡ Some g → g.key ≡ key → ⊥ = λ i g e same.
@@ -90,9 +90,9 @@ writer-granted shape past who request key mode shift now heard writing none at i
     let within = slice_get_within (ever heard) i g here in
     let count = w.had in
     omega (arith, is, within, count) in
-    let a = count-cons is_had told heard in
-    let c = count-cons is_release told heard in
-    let rel : released (told ∷ heard) ≡ released heard = omega (arith, c) in
+    let a = count-cons is_had reply heard in
+    let c = count-cons is_release reply heard in
+    let rel : released (reply ∷ heard) ≡ released heard = omega (arith, c) in
     let had = w.had in
     let len = length-append (ever heard) (grant ∷ []) in
     let here : (home == home) ≡ true = eq-eqb home home refl in
@@ -144,7 +144,7 @@ writer-granted shape past who request key mode shift now heard writing none at i
       ending = λ e. absurd (false≢true e);
       going = λ _. let goes = w.going (asking-going heard asks) in (goes.0, rel ∙ goes.1);
       unraised = λ i g e late. elim (push-place (granted heard) grant i g e) [
-        | inl before ↦ let d = count-cons is_turn told heard in w.unraised i g before (omega (arith, late, d))
+        | inl before ↦ let d = count-cons is_turn reply heard in w.unraised i g before (omega (arith, late, d))
         | inr last ↦ subst (λ (p : Permit). p.mode ≡ mode_on writing.mode p.key) last.1 in_mode
       ];
       raising = λ on. absurd (false≢true on);
@@ -165,18 +165,18 @@ pub writer-released : (shape : Shape) (past : List Event) (place : ℕ)
     (who : Sid) (request : Wanted) (s : Step) (rel : Rel) (gone : Permit) (heard : List Reply) (writing : Writing)
     → ReturnsGrant gone request → ((key : QKey) (token : ℕ) → grants_as key token s ≡ false) → slice_get (granted heard) (released heard) ≡ Some gone
     → closed who.number past ≡ true
-    → Writer shape past who.number heard writing → Writer shape (Stepped place who request s (reply.Rel rel) ∷ past) who.number (reply.Rel rel ∷ heard) writing
+    → Writer shape past who.number heard writing → Writer shape (Stepped place who request s (Reply.Rel rel) ∷ past) who.number (Reply.Rel rel ∷ heard) writing
 writer-released shape past place who request s rel gone heard writing returns none at shut w =
     let n = who.number in
-    let told = reply.Rel rel in
-    let event = Stepped place who request s told in
-    let c = count-cons is_release told heard in
-    writer-told shape event past n told heard writing (record { none = refl; kept = λ p g. refl; left = λ p g. refl }) refl
-    (finds-none shape place who request s told past n none)
+    let reply = Reply.Rel rel in
+    let event = Stepped place who request s reply in
+    let c = count-cons is_release reply heard in
+    writer-heard shape event past n reply heard writing (record { none = refl; kept = λ p g. refl; left = λ p g. refl }) refl
+    (finds-none shape place who request s reply past n none)
     (λ i g here not_yet.
     let other : gone ≡ g → ⊥ = λ one. let place_is : i ≡ released heard =
     w.apart i (released heard) g gone here at (ap (λ (p : Permit). p.key) (sym one)) in omega (arith, not_yet, c, place_is) in
-    stood-stepped shape place who request s told past n g (λ _ still _. absurd (not_both shut still))
+    stood-stepped shape place who request s reply past n g (λ _ still _. absurd (not_both shut still))
     (out-other g gone request s returns other) (w.stood i g here (omega (arith, not_yet, c))))
     (inr (closed-more n event past shut)) (λ _. closed-more n event past shut) (λ number e. number-more event past n number (w.numbered number e))
     (λ on. absurd (false≢true on)) (λ on. absurd (false≢true on)) w
@@ -185,21 +185,21 @@ writer-released shape past place who request s rel gone heard writing returns no
 pub writer-committed : (shape : Shape) (past : List Event) (who : Sid)
     (request : Wanted) (txn : List Change) (lent : GrantsView) (heard : List Reply) (writing : Writing)
     → Writer shape past who.number heard writing
-    → Writer shape (Called who request (reply.Committed (length (log_of past) + 1) txn lent)
-    ∷ past) who.number (reply.Committed (length (log_of past) + 1) txn lent ∷ heard) writing
+    → Writer shape (Called who request (Reply.Committed (length (log_of past) + 1) txn lent)
+    ∷ past) who.number (Reply.Committed (length (log_of past) + 1) txn lent ∷ heard) writing
 writer-committed shape past who request txn lent heard writing w =
     let n = who.number in
     let number = length (log_of past) + 1 in
-    let told = reply.Committed number txn lent in
-    let event = Called who request told in
+    let reply = Reply.Committed number txn lent in
+    let event = Called who request reply in
     let commit : Commit = record { sid = who; txn = txn } in
-    let c = count-cons is_release told heard in
+    let c = count-cons is_release reply heard in
     let last = slice-last (log_of past) commit in
     let shut : closed n (event ∷ past) ≡ true = or_inl (has_committed n (event ∷ past)) (was_ended n (event ∷ past))
     (any-at (λ (c : Commit). c.sid.number == n) (log_of past ++ commit ∷ []) (length (log_of past)) commit last (eq-eqb n n refl)) in
-    writer-told shape event past n told heard writing (record { none = refl; kept = λ p g. refl; left = λ p g. refl }) refl
-    (finds-called shape who request told past n)
-    (λ i g at not_yet. stood-called shape who request told past n g (w.stood i g at (omega (arith, not_yet, c)))) (inr shut) (λ _. shut)
+    writer-heard shape event past n reply heard writing (record { none = refl; kept = λ p g. refl; left = λ p g. refl }) refl
+    (finds-called shape who request reply past n)
+    (λ i g at not_yet. stood-called shape who request reply past n g (w.stood i g at (omega (arith, not_yet, c)))) (inr shut) (λ _. shut)
     (λ m e. let is : number ≡ m = some_same e in record { place = length (log_of past); commit = commit; is = sym is; at = last; own = refl })
     (λ on. absurd (false≢true on)) (λ on. absurd (false≢true on)) w
   where

@@ -24,7 +24,7 @@ use Rattle.session_client.specs.declared.plans.Shape.{Shape}
 use Rattle.session_client.specs.declared.replies.Reply.{Reply}
 use Rattle.session_client.specs.Plans.{writes, mode_of, mode_on, shift_in, changes_of}
 use Rattle.session_client.specs.Wants.{granted, is_had, released, Writing, writing_of}
-use Rattle.core_history.specs.Events.{Event, steps_of, told_to, has_committed, was_ended}
+use Rattle.core_history.specs.Events.{Event, steps_of, heard_by, has_committed, was_ended}
 use Rattle.core_history.specs.Machine.{World, terms_of, plan_at, is_writer, is_open}
 use Rattle.core_history.specs.Facts.{stands_for}
 use Rattle.core_history.proofs.ListLemmas.{and_elim, not_both, not_true, any-weaker, place_of, count-some, some-count}
@@ -38,19 +38,19 @@ use Rattle.core_history.proofs.InnerLemmas.{Inner, IsSession}
 pub record IsWriter (shape : Shape) (world : World) (n : ℕ) (plan : Plan) : Type 0 where
   pub at : plan_at n world.plans ≡ Some plan
   pub may : writes plan ≡ true
-  pub writer : Writer shape world.past n (told_to n world.past) (writing_of plan)
-  pub stays : (event : Event) (told : Reply) → Writer shape (event ∷ world.past) n (told ∷ told_to n world.past) (writing_of plan)
-      → IsSession shape (event ∷ world.past) n (told ∷ told_to n world.past) (plan_at n world.plans)
+  pub writer : Writer shape world.past n (heard_by n world.past) (writing_of plan)
+  pub stays : (event : Event) (reply : Reply) → Writer shape (event ∷ world.past) n (reply ∷ heard_by n world.past) (writing_of plan)
+      → IsSession shape (event ∷ world.past) n (reply ∷ heard_by n world.past) (plan_at n world.plans)
 
 -- no quarantine of the session stands on the key that it asks for next
 none_asked : (shape : Shape) (world : World) (who : Sid) (writing : Writing) (key : QKey) → Inner shape world
-    → Writer shape world.past who.number (told_to who.number world.past) writing
-    → slice_get writing.keys (count_by is_had (told_to who.number world.past)) ≡ Some key
+    → Writer shape world.past who.number (heard_by who.number world.past) writing
+    → slice_get writing.keys (count_by is_had (heard_by who.number world.past)) ≡ Some key
     → list_any (is_of who) (standing key (steps_of (shard_of key shape.shards) world.past)) ≡ true → ⊥
 none_asked shape world who writing key inner w at stands =
     let home = shard_of key shape.shards in
     let steps = steps_of home world.past in
-    let heard = told_to who.number world.past in
+    let heard = heard_by who.number world.past in
     let given = count-some (quarantines key who) steps (granted_standing key who steps stands) in
     let counts = inner.counts key who in
     let found = place_of (covers who key) (ever heard) (some-count (covers who key) (ever heard) (omega (arith, given, counts))) in
@@ -75,8 +75,8 @@ no_own key who past = by (standing key past)
 
 -- so it holds none there
 pub asked-free : (shape : Shape) (world : World) (who : Sid) (writing : Writing) (key : QKey) → Inner shape world
-    → Writer shape world.past who.number (told_to who.number world.past) writing
-    → slice_get writing.keys (count_by is_had (told_to who.number world.past)) ≡ Some key
+    → Writer shape world.past who.number (heard_by who.number world.past) writing
+    → slice_get writing.keys (count_by is_had (heard_by who.number world.past)) ≡ Some key
     → own_of key who (steps_of (shard_of key shape.shards) world.past) ≡ None
 asked-free shape world who writing key inner w at =
     let steps = steps_of (shard_of key shape.shards) world.past in
@@ -151,7 +151,7 @@ some_plan e = cc
 
 pub stands-mine : (shape : Shape) (world : World) (who : Sid) (plan : Plan) (i : ℕ) (grant : Permit) (quar : Quar)
     → Inner shape world → IsWriter shape world who.number plan
-    → slice_get (granted (told_to who.number world.past)) i ≡ Some grant
+    → slice_get (granted (heard_by who.number world.past)) i ≡ Some grant
     → quar_of grant.key grant.token (steps_of (shard_of grant.key shape.shards) world.past) ≡ Some quar → IsMine who.number plan grant quar
 stands-mine shape world who plan i grant quar inner w at found =
     let home = shard_of grant.key shape.shards in

@@ -20,9 +20,9 @@ use Rattle.session_client.specs.declared.plans.Turn.TheVariants as turn
 use Rattle.session_client.specs.declared.sessions.Session.{Session}
 use Rattle.session_client.specs.Plans.{IsShape}
 use Rattle.session_client.specs.Follows.{plan_of, sid_of, IsReady, Follows}
-use Rattle.expiry_sweeper.specs.Follows.{shards_of, Follows as IsTold}
+use Rattle.expiry_sweeper.specs.Follows.{shards_of, Follows as HasHeard}
 use Rattle.expiry_sweeper.specs.declared.sweepers.Sweeper.{Sweeper}
-use Rattle.core_history.specs.Events.{Event, steps_of, log_of, told_to, sweeps_of, now_of}
+use Rattle.core_history.specs.Events.{Event, steps_of, log_of, heard_by, sweeps_of, now_of}
 use Rattle.core_history.specs.Freshness.{IsLawful, histories_of}
 use Rattle.core_history.specs.Lines.{is_fault}
 use Rattle.core_history.specs.Machine.{World, Move, world_of, HasPlans, terms_of, log_cap, out_of, is_open}
@@ -33,7 +33,7 @@ use Rattle.core_history.specs.Truth.{IsTruePast}
 pub record Origin : Type 0 where
   pub shape : Shape
   pub opening : Tables
-  pub told : Option Tables
+  pub known_rows : Option Tables
   pub faults : ℕ
 
 -- what contracts see of a core
@@ -47,7 +47,7 @@ pub record CoreView : Type 0 where
 -- what a core of this shape was made with, that is new
 abbrev pub origin_of : Shape → CoreView → Origin
 origin_of shape core =
-    record { shape = shape; opening = core.store.ledger.opening; told = core.store.told; faults = core.store.faults }
+    record { shape = shape; opening = core.store.ledger.opening; known_rows = core.store.known_rows; faults = core.store.faults }
 
 -- the shard of this number after these events
 abbrev pub shard_after : Shape → List Event → ℕ → ShardView
@@ -78,8 +78,8 @@ pub record HasStore (store : StoreView) (origin : Origin) (past : List Event) : 
   pub failed : store.ledger.failed ≡ min (count_by is_fault past) (2 ^ 64 - 1)
   pub faults : RoseBy (count_by is_fault past) origin.faults store.faults
   pub quiet : count_by is_fault past ≡ 0 → store.faults ≡ origin.faults
-  pub telling : IsSome store.told → IsSome origin.told
-  pub truth : IsSome store.told → IsTruePast origin.opening past
+  pub telling : IsSome store.known_rows → IsSome origin.known_rows
+  pub truth : IsSome store.known_rows → IsTruePast origin.opening past
 
 -- the shards and the store are those after these moves. So it is at every end
 pub record HasKept (core : CoreView) (origin : Origin) (moves : List Move) : Type 0 where
@@ -97,19 +97,19 @@ pub record HasPhases (phases : List Phase) (world : World) : Type 0 where
 abbrev pub AreFollowing : List Session → List Event → Type 0
 AreFollowing sessions past =
     (place : ℕ) (session : Session) → slice_get sessions place ≡ Some session
-    → IsReady session × ((sid_of session).number ≡ place + 1) × Follows session false (told_to (place + 1) past)
+    → IsReady session × ((sid_of session).number ≡ place + 1) × Follows session false (heard_by (place + 1) past)
 
 -- each session that began is there, and no other one was told anything: none of a later number, nor any of the number 0, which no session has
 pub record HasSessions (sessions : List Session) (world : World) : Type 0 where
   pub plans : map plan_of sessions ≡ world.plans
   pub following : AreFollowing sessions world.past
-  pub unbegun : (number : ℕ) → length sessions < number → told_to number world.past ≡ []
-  pub nobody : told_to 0 world.past ≡ []
+  pub unbegun : (number : ℕ) → length sessions < number → heard_by number world.past ≡ []
+  pub nobody : heard_by 0 world.past ≡ []
 
 -- the sweeper sweeps the shards of the shape, and follows what it was told
 pub record HasSweeper (sweeper : Sweeper) (shape : Shape) (past : List Event) : Type 0 where
   pub shards : shards_of sweeper ≡ shape.shards
-  pub following : IsTold sweeper (sweeps_of past)
+  pub following : HasHeard sweeper (sweeps_of past)
 
 -- the core stands after these moves, the latest first
 pub record IsAt (core : CoreView) (origin : Origin) (moves : List Move) : Type 0 where
@@ -125,8 +125,8 @@ pub record IsSound (core : CoreView) (origin : Origin) (moves : List Move) : Typ
   pub log : core.store.ledger.log ≡ log_of (world_of origin.shape moves).past
   pub histories : map (λ shard. shard.history) core.shards ≡ histories_of origin.shape (world_of origin.shape moves).past
   pub lawful : IsLawful origin.shape (world_of origin.shape moves).past
-  pub rows : ForSome core.store.told (λ rows. rows ≡ rows_after origin.opening (log_of (world_of origin.shape moves).past))
-  pub fresh : IsSome core.store.told
+  pub rows : ForSome core.store.known_rows (λ rows. rows ≡ rows_after origin.opening (log_of (world_of origin.shape moves).past))
+  pub fresh : IsSome core.store.known_rows
       → Fresh origin.opening (log_of (world_of origin.shape moves).past) (histories_of origin.shape (world_of origin.shape moves).past)
 
 -- how many shards the core has

@@ -24,10 +24,10 @@ use Rattle.sql_keeper.specs.Log.{rows_after, state}
 use Rattle.sql_keeper.specs.Fresh.{quarantines}
 use Rattle.session_client.specs.declared.plans.Shape.{Shape}
 use Rattle.session_client.specs.declared.replies.Reply.{Reply}
-use Rattle.session_client.specs.declared.replies.Reply.TheVariants as reply
+use Rattle.session_client.specs.declared.replies.Reply.TheVariants as Reply
 use Rattle.session_client.specs.Wants.{Given, given}
 use Rattle.expiry_sweeper.specs.declared.replies.SweepWanted.TheVariants as sweep
-use Rattle.core_history.specs.Events.{Event, Stepped, Called, Ticked, Swept, steps_of, told_to, log_of, has_committed}
+use Rattle.core_history.specs.Events.{Event, Stepped, Called, Ticked, Swept, steps_of, heard_by, log_of, has_committed}
 use Rattle.core_history.specs.Machine.{World, is_open, swept_next}
 
 -- The past of a key's own shard.
@@ -63,27 +63,27 @@ leases key token other = false
 -- How many commits the log had when the lease of this token was given on the key, if it was.
 abbrev pub leased_at : QKey → ℕ → List Event → Option ℕ
 leased_at key token [] = None
-leased_at key token (Stepped shard who request step told ∷ past) =
+leased_at key token (Stepped shard who request step reply ∷ past) =
     if leases key token step then Some (length (log_of past)) else leased_at key token past
-leased_at key token (Called who request told ∷ past) = leased_at key token past
+leased_at key token (Called who request reply ∷ past) = leased_at key token past
 leased_at key token (Ticked now ∷ past) = leased_at key token past
-leased_at key token (Swept shard request made told ∷ past) = leased_at key token past
+leased_at key token (Swept shard request made reply ∷ past) = leased_at key token past
 
 -- The answer to the key that a reply tells the session of this number, if it does.
 abbrev pub answers_in : QKey → ℕ → Sid → Reply → List Answer
-answers_in key number who (reply.Answer answered) =
+answers_in key number who (Reply.Answer answered) =
     if (who.number == number) && same_key key answered.key then answered ∷ [] else []
 answers_in key number who other = []
 
 -- The answers to the key that a session was told since the lease of this token was given on it.
 abbrev pub answers_under : QKey → ℕ → ℕ → List Event → List Answer
 answers_under key token number [] = []
-answers_under key token number (Stepped shard who request step told ∷ past) =
+answers_under key token number (Stepped shard who request step reply ∷ past) =
     if leases key token step then [] else answers_under key token number past
-answers_under key token number (Called who request told ∷ past) =
-    answers_in key number who told ++ answers_under key token number past
+answers_under key token number (Called who request reply ∷ past) =
+    answers_in key number who reply ++ answers_under key token number past
 answers_under key token number (Ticked now ∷ past) = answers_under key token number past
-answers_under key token number (Swept shard request made told ∷ past) = answers_under key token number past
+answers_under key token number (Swept shard request made reply ∷ past) = answers_under key token number past
 
 -- An answer that is held under a lease is the key's on the rows after as many commits as its stamp
 -- says, these are at least as many as there were at the lease, and no commit after them touches the key.
@@ -114,12 +114,12 @@ grants_as key token other = false
 -- What the quarantine of this token found on the key, if it was granted: when it was, or when it was raised.
 abbrev pub found_at : QKey → ℕ → List Event → Option Found
 found_at key token [] = None
-found_at key token (Stepped shard who request step told ∷ past) =
+found_at key token (Stepped shard who request step reply ∷ past) =
     if grants_as key token step then Some (record { commits = length (log_of past); entry = entry key (steps_of shard past) })
     else found_at key token past
-found_at key token (Called who request told ∷ past) = found_at key token past
+found_at key token (Called who request reply ∷ past) = found_at key token past
 found_at key token (Ticked now ∷ past) = found_at key token past
-found_at key token (Swept shard request made told ∷ past) = found_at key token past
+found_at key token (Swept shard request made reply ∷ past) = found_at key token past
 
 -- An entry that was found is the present answer to the key.
 abbrev pub IsPresent : Tables → List Commit → QKey → Option (List ℕ × ℕ) → Type 0
@@ -142,7 +142,7 @@ pub record IsExclusive (opening : Tables) (shape : Shape) (world : World) (key :
   -- the key's entry is the one of that moment, or is gone
   pub same : (entry key (steps_on shape world key) ≡ found.entry) ⊎ (entry key (steps_on shape world key) ≡ None)
   -- the old value that the session keeps is that entry
-  pub kept : (place : ℕ) (one : Given) → slice_get (given (told_to quar.sid.number world.past)) place ≡ Some one
+  pub kept : (place : ℕ) (one : Given) → slice_get (given (heard_by quar.sid.number world.past)) place ≡ Some one
       → one.permit.key ≡ key → one.permit.token ≡ quar.token → quar.mode ≡ Refresh → one.old ≡ found.entry
   -- while the session may commit, that is the present answer
   pub present : is_open world quar.sid ≡ true → IsPresent opening (log_of world.past) key found.entry

@@ -15,7 +15,7 @@ use Rattle.sql_keeper.specs.declared.stores.Commit.{Commit}
 use Rattle.sql_keeper.specs.Fresh.{Fresh, Covered}
 use Rattle.session_client.specs.declared.plans.Shape.{Shape}
 use Rattle.session_client.specs.declared.replies.Reply.{Reply}
-use Rattle.session_client.specs.declared.replies.Reply.TheVariants as reply
+use Rattle.session_client.specs.declared.replies.Reply.TheVariants as Reply
 use Rattle.core_history.specs.Events.{Event, Stepped, Called, Ticked, Swept, steps_of, log_of, has_committed}
 use Rattle.core_history.specs.Machine.{Move, world_of, HasPlans, terms_of}
 use Rattle.core_history.specs.Truth.{IsTruePast}
@@ -27,16 +27,16 @@ histories_of shape past = map (λ place. reverse (steps_of place past)) (range_w
 
 -- Where a session is told that it has committed, a quarantine of its stands on each key that its transaction touches.
 abbrev pub IsQuarantinedReply : Shape → List Event → Sid → Reply → Type 0
-IsQuarantinedReply shape past who (reply.Committed number txn grants) =
+IsQuarantinedReply shape past who (Reply.Committed number txn grants) =
     (key : QKey) → touches txn key ≡ true → stands_for who (standing key (steps_of (shard_of key shape.shards) past)) ≡ true
 IsQuarantinedReply shape past who other = Unit {0}
 
 -- So it is of an event.
 abbrev pub IsQuarantinedEvent : Shape → List Event → Event → Type 0
-IsQuarantinedEvent shape past (Stepped shard who request step told) = IsQuarantinedReply shape past who told
-IsQuarantinedEvent shape past (Called who request told) = IsQuarantinedReply shape past who told
+IsQuarantinedEvent shape past (Stepped shard who request step reply) = IsQuarantinedReply shape past who reply
+IsQuarantinedEvent shape past (Called who request reply) = IsQuarantinedReply shape past who reply
 IsQuarantinedEvent shape past (Ticked now) = Unit {0}
-IsQuarantinedEvent shape past (Swept shard request made told) = Unit {0}
+IsQuarantinedEvent shape past (Swept shard request made reply) = Unit {0}
 
 -- So it is at each turn.
 abbrev pub AreQuarantined : Shape → List Event → Type 0
@@ -64,10 +64,10 @@ IsRaisedFirst past other = Unit {0}
 
 -- So it is in an event.
 abbrev pub RaisesFirst : List Event → Event → Type 0
-RaisesFirst past (Stepped shard who request step told) = IsRaisedFirst past step
-RaisesFirst past (Called who request told) = Unit {0}
+RaisesFirst past (Stepped shard who request step reply) = IsRaisedFirst past step
+RaisesFirst past (Called who request reply) = Unit {0}
 RaisesFirst past (Ticked now) = Unit {0}
-RaisesFirst past (Swept shard request made told) = Unit {0}
+RaisesFirst past (Swept shard request made reply) = Unit {0}
 
 -- So it is at each turn.
 abbrev pub AreRaisedFirst : List Event → Type 0

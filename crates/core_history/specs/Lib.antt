@@ -12,7 +12,7 @@ pub mod Lines
 pub mod Words
 pub mod Cores
 pub mod Requests
-pub mod Told
+pub mod TurnLines
 pub mod Sweeping
 pub mod Voids
 pub mod Sweeps

@@ -8,8 +8,8 @@ use Rattle.rows_model.specs.declared.keys.Sid.{Sid}
 use Rattle.rows_model.specs.Key.{key_text}
 use Rattle.lease_table.specs.declared.records.Mode.{Mode}
 use Rattle.lease_table.specs.declared.records.Mode.TheVariants.{Invalidate, Refresh, Delta}
-use Rattle.key_shard.specs.declared.steps.Stands.{Stands}
-use Rattle.key_shard.specs.declared.steps.Stands.TheVariants as stands
+use Rattle.key_shard.specs.declared.steps.Blocker.{Blocker}
+use Rattle.key_shard.specs.declared.steps.Blocker.TheVariants as stands
 use Rattle.key_shard.specs.declared.replies.Got.{Got}
 use Rattle.key_shard.specs.declared.replies.Got.TheVariants as got
 use Rattle.key_shard.specs.declared.replies.SetAnswer.{SetAnswer}
@@ -32,7 +32,7 @@ use Rattle.sql_keeper.specs.declared.stores.Commit.{Commit}
 use Rattle.session_client.specs.declared.replies.Fault.{Fault}
 use Rattle.session_client.specs.declared.replies.Fault.TheVariants as causes
 use Rattle.session_client.specs.declared.replies.Reply.{Reply}
-use Rattle.session_client.specs.declared.replies.Reply.TheVariants as reply
+use Rattle.session_client.specs.declared.replies.Reply.TheVariants as Reply
 use Rattle.session_client.specs.declared.replies.Wanted.{Wanted}
 use Rattle.executor.specs.Requests.{request_of}
 use Rattle.executor.specs.declared.requests.Request.{Request}
@@ -71,7 +71,7 @@ request_words (request.Raise key token) = codes "raise" ∷ key_text key ∷ []
 request_words (request.Renew key token) = codes "renew" ∷ key_text key ∷ []
 request_words request.Nothing = codes "done" ∷ []
 
-abbrev pub stands_word : Stands → List ℕ
+abbrev pub stands_word : Blocker → List ℕ
 stands_word stands.I = codes "I"
 stands_word stands.Q = codes "Q"
 
@@ -161,22 +161,22 @@ fault_words causes.Memory = []
 
 -- The words that print what a session was told.
 abbrev pub reply_words : Reply → List (List ℕ)
-reply_words (reply.Got got) = got_words got
-reply_words (reply.Answer answer) = decimal answer.stamp ∷ printed_value answer.value ∷ []
-reply_words (reply.Staged value txn) = printed_value value ∷ []
-reply_words (reply.NotStaged fault txn) = staged_fault_words fault
-reply_words (reply.Set told) = set_words told
-reply_words (reply.Quar told) = quarantine_words told
-reply_words (reply.Committed number txn grants) = codes "COMMITTED" ∷ decimal number ∷ []
-reply_words (reply.NotCommitted fault txn grants) = commit_fault_words fault
-reply_words (reply.End was) = open_words was
-reply_words (reply.Rel told) = release_words told
-reply_words (reply.SarBack grant) = []
-reply_words (reply.Raise told) = raising_words told
-reply_words (reply.RaiseBack grant) = []
-reply_words (reply.Renew grant told) = renewal_words told
-reply_words (reply.Fault fault) = fault_words fault
-reply_words reply.Nothing = []
+reply_words (Reply.Got got) = got_words got
+reply_words (Reply.Answer answer) = decimal answer.stamp ∷ printed_value answer.value ∷ []
+reply_words (Reply.Staged value txn) = printed_value value ∷ []
+reply_words (Reply.NotStaged fault txn) = staged_fault_words fault
+reply_words (Reply.Set answer) = set_words answer
+reply_words (Reply.Quar answer) = quarantine_words answer
+reply_words (Reply.Committed number txn grants) = codes "COMMITTED" ∷ decimal number ∷ []
+reply_words (Reply.NotCommitted fault txn grants) = commit_fault_words fault
+reply_words (Reply.End was) = open_words was
+reply_words (Reply.Rel answer) = release_words answer
+reply_words (Reply.SarBack grant) = []
+reply_words (Reply.Raise answer) = raising_words answer
+reply_words (Reply.RaiseBack grant) = []
+reply_words (Reply.Renew grant answer) = renewal_words answer
+reply_words (Reply.Fault fault) = fault_words fault
+reply_words Reply.Nothing = []
 
 -- The words that print a step of the sweeper's.
 abbrev pub sweep_words : SweepWanted → List (List ℕ)
@@ -189,18 +189,18 @@ abbrev pub swept_words : SweepReply → List (List ℕ)
 swept_words (sweeps.Found at due) = codes "FOUND" ∷ key_text due.key ∷ decimal due.sid.number ∷ []
 swept_words (sweeps.NoneFound at) = codes "NONE" ∷ []
 swept_words (sweeps.Ended closed) = open_words closed.was
-swept_words (sweeps.Dropped told) = release_words told
+swept_words (sweeps.Dropped answer) = release_words answer
 
 -- The words of a session's turn: its number, its request, and what it was told.
 abbrev pub turn_words : Sid → Wanted → Reply → List (List ℕ)
-turn_words who request told = decimal who.number ∷ request_words (request_of request) ++ reply_words told
+turn_words who request reply = decimal who.number ∷ request_words (request_of request) ++ reply_words reply
 
 -- The words of an event.
 abbrev pub event_words : Event → List (List ℕ)
-event_words (Stepped shard who request step told) = turn_words who request told
-event_words (Called who request told) = turn_words who request told
+event_words (Stepped shard who request step reply) = turn_words who request reply
+event_words (Called who request reply) = turn_words who request reply
 event_words (Ticked now) = codes "tick" ∷ decimal now ∷ []
-event_words (Swept shard request made told) = codes "sweep" ∷ sweep_words request ++ swept_words told
+event_words (Swept shard request made reply) = codes "sweep" ∷ sweep_words request ++ swept_words reply
 
 -- The line of an event.
 unfoldable pub line_of : Event → List ℕ
@@ -212,17 +212,17 @@ lines_of past = flat_map line_of (reverse past)
 
 -- Whether a reply tells that the store's keeper failed. It is printed as FAULT.
 abbrev pub tells_fault : Reply → Bool
-tells_fault (reply.Fault causes.Keep) = true
-tells_fault (reply.NotStaged after.Failed txn) = true
-tells_fault (reply.NotCommitted faults.KeepFault txn grants) = true
+tells_fault (Reply.Fault causes.Keep) = true
+tells_fault (Reply.NotStaged after.Failed txn) = true
+tells_fault (Reply.NotCommitted faults.KeepFault txn grants) = true
 tells_fault other = false
 
 -- Whether the line of an event says FAULT.
 abbrev pub is_fault : Event → Bool
-is_fault (Stepped shard who request step told) = tells_fault told
-is_fault (Called who request told) = tells_fault told
+is_fault (Stepped shard who request step reply) = tells_fault reply
+is_fault (Called who request reply) = tells_fault reply
 is_fault (Ticked now) = false
-is_fault (Swept shard request made told) = false
+is_fault (Swept shard request made reply) = false
 
 -- The turns that were answered FAULT, by their numbers, which count from 1: the lowest first.
 abbrev pub fault_turns : List Event → List ℕ

@@ -22,9 +22,9 @@ use Rattle.key_shard.specs.declared.replies.How.TheVariants.{Keep, Drop, Shift}
 use Rattle.key_shard.specs.Dues.{first_due}
 use Rattle.key_shard.specs.Past.{Terms, entry, evicted_by}
 use Rattle.key_shard.specs.Answers.{get_step, set_step, quarantine_step, release_step, replace_step, sweep_step, raise_step, renew_step}
-use Rattle.key_shard.specs.Replies.{old_value, sweep_told}
+use Rattle.key_shard.specs.Replies.{old_value, sweep_answer}
 use Rattle.key_shard.specs.Shards.{without_permit, out_after, raised_permit}
-use Rattle.expiry_sweeper.specs.Sweeps.{sweep_wants, scan_told}
+use Rattle.expiry_sweeper.specs.Sweeps.{sweep_wants, scan_reply}
 use Rattle.expiry_sweeper.specs.declared.replies.SweepReply.{SweepReply}
 use Rattle.expiry_sweeper.specs.declared.replies.SweepReply.TheVariants as sweeps
 use Rattle.expiry_sweeper.specs.declared.replies.SweepWanted.{SweepWanted}
@@ -40,12 +40,12 @@ use Rattle.session_client.specs.declared.plans.Turn.{Turn}
 use Rattle.session_client.specs.declared.plans.Turn.TheVariants as turn
 use Rattle.session_client.specs.declared.replies.Fault.TheVariants as causes
 use Rattle.session_client.specs.declared.replies.Reply.{Reply}
-use Rattle.session_client.specs.declared.replies.Reply.TheVariants as reply
+use Rattle.session_client.specs.declared.replies.Reply.TheVariants as Reply
 use Rattle.session_client.specs.declared.replies.Wanted.{Wanted}
 use Rattle.session_client.specs.declared.replies.Wanted.TheVariants as wanted
 use Rattle.session_client.specs.Plans.{IsPlan, writes}
 use Rattle.session_client.specs.Wants.{wants}
-use Rattle.core_history.specs.Events.{Event, Stepped, Called, Ticked, Swept, steps_of, told_to, sweeps_of, now_of, log_of, was_ended, has_committed}
+use Rattle.core_history.specs.Events.{Event, Stepped, Called, Ticked, Swept, steps_of, heard_by, sweeps_of, now_of, log_of, was_ended, has_committed}
 
 -- What a shard of this shape is made with. Its tokens begin at 1, and it is whole.
 abbrev pub terms_of : Shape → ℕ → Terms
@@ -93,39 +93,39 @@ is_open world who =
 
 -- What a session is told of a step, after the steps before it. What a raise or a renewal tells goes by its grant, and stands below.
 abbrev pub step_reply : Terms → List Step → Step → Reply
-step_reply terms past (step.Hit key sid floor value stamp) = reply.Got (got.Hit value stamp)
-step_reply terms past (step.Lease key sid floor now token deadline) = reply.Got (got.Lease token)
-step_reply terms past (step.Again key sid floor now standing) = reply.Got (got.Again standing)
-step_reply terms past (step.Own key sid) = reply.Got got.Own
-step_reply terms past (step.Stored key token now value stamp evicted) = reply.Set (set.Stored evicted)
-step_reply terms past (step.Void key token now) = reply.Set set.Void
+step_reply terms past (step.Hit key sid floor value stamp) = Reply.Got (got.Hit value stamp)
+step_reply terms past (step.Lease key sid floor now token deadline) = Reply.Got (got.Lease token)
+step_reply terms past (step.Again key sid floor now standing) = Reply.Got (got.Again standing)
+step_reply terms past (step.Own key sid) = Reply.Got got.Own
+step_reply terms past (step.Stored key token now value stamp evicted) = Reply.Set (set.Stored evicted)
+step_reply terms past (step.Void key token now) = Reply.Set set.Void
 step_reply terms past (step.Granted key sid mode shift now token deadline) =
-    reply.Quar (quarantine.Granted (record { shard = terms.no; key = key; sid = sid; mode = mode; token = token }) (old_value mode (entry key past)))
-step_reply terms past (step.Held key sid mode) = reply.Quar quarantine.Held
-step_reply terms past (step.Refused key sid mode holder held) = reply.Quar (quarantine.Refused holder held)
-step_reply terms past (step.Released key sid token how) = reply.Rel (rel.Released (evicted_by how))
-step_reply terms past (step.Gone key sid token) = reply.Rel rel.Gone
-step_reply terms past (step.Raised key sid token) = reply.Nothing
-step_reply terms past (step.Shared key sid token holder) = reply.Nothing
-step_reply terms past (step.Renewed key sid token now deadline) = reply.Nothing
+    Reply.Quar (quarantine.Granted (record { shard = terms.no; key = key; sid = sid; mode = mode; token = token }) (old_value mode (entry key past)))
+step_reply terms past (step.Held key sid mode) = Reply.Quar quarantine.Held
+step_reply terms past (step.Refused key sid mode holder held) = Reply.Quar (quarantine.Refused holder held)
+step_reply terms past (step.Released key sid token how) = Reply.Rel (rel.Released (evicted_by how))
+step_reply terms past (step.Gone key sid token) = Reply.Rel rel.Gone
+step_reply terms past (step.Raised key sid token) = Reply.Nothing
+step_reply terms past (step.Shared key sid token holder) = Reply.Nothing
+step_reply terms past (step.Renewed key sid token now deadline) = Reply.Nothing
 
 -- What is told of a raise of this grant: the raised grant with the entry, or who stands beside it, or that it is spent.
-abbrev pub raise_told : Permit → List Step → Step → Raising
-raise_told grant past (step.Raised key sid token) = raising.Raised (raised_permit grant.key grant.token grant) (entry key past)
-raise_told grant past (step.Shared key sid token holder) = raising.Shared grant holder
-raise_told grant past other = raising.Gone
+abbrev pub raise_answer : Permit → List Step → Step → Raising
+raise_answer grant past (step.Raised key sid token) = raising.Raised (raised_permit grant.key grant.token grant) (entry key past)
+raise_answer grant past (step.Shared key sid token holder) = raising.Shared grant holder
+raise_answer grant past other = raising.Gone
 
 -- What is told of a renewal: the new deadline, or that the quarantine stands no longer.
-abbrev pub renewal_told : Step → Renewal
-renewal_told (step.Renewed key sid token now deadline) = renewal.Renewed deadline
-renewal_told other = renewal.Gone
+abbrev pub renewal_answer : Step → Renewal
+renewal_answer (step.Renewed key sid token now deadline) = renewal.Renewed deadline
+renewal_answer other = renewal.Gone
 
 -- What a session is told of a raise, and of a renewal. The grant of a renewal comes back in any case.
 abbrev pub raise_shown : Permit → Terms → List Step → Step → Reply
-raise_shown grant terms past step = reply.Raise (raise_told grant past step)
+raise_shown grant terms past step = Reply.Raise (raise_answer grant past step)
 
 abbrev pub renewal_shown : Permit → Terms → List Step → Step → Reply
-renewal_shown grant terms past step = reply.Renew grant (Some (renewal_told step))
+renewal_shown grant terms past step = Reply.Renew grant (Some (renewal_answer step))
 
 -- A request on the shard of a key makes the step that follows that shard's own past, and is told what the step shows.
 abbrev pub shown_on : Shape → List Event → Sid → Wanted → QKey → (Terms → List Step → Step) → (Terms → List Step → Step → Reply) → Event
@@ -140,29 +140,29 @@ abbrev pub stepped_on : Shape → List Event → Sid → Wanted → QKey → (Te
 stepped_on shape past who request key step = shown_on shape past who request key step step_reply
 
 -- The store's answer to a key has the number of commits as its stamp.
-abbrev pub ask_told : List Event → QKey → Said → Reply
-ask_told past key (Value value) = reply.Answer (record { key = key; value = value; stamp = length (log_of past) })
-ask_told past key other = reply.Fault causes.Keep
+abbrev pub ask_reply : List Event → QKey → Said → Reply
+ask_reply past key (Value value) = Reply.Answer (record { key = key; value = value; stamp = length (log_of past) })
+ask_reply past key other = Reply.Fault causes.Keep
 
 -- What a session is told of the answer that its transaction would leave.
-abbrev pub staged_told : List Change → Said → Reply
-staged_told txn (Value value) = reply.Staged value txn
-staged_told txn (Rejected index) = reply.NotStaged (after.Rejected index) txn
-staged_told txn other = reply.NotStaged after.Failed txn
+abbrev pub staged_reply : List Change → Said → Reply
+staged_reply txn (Value value) = Reply.Staged value txn
+staged_reply txn (Rejected index) = Reply.NotStaged (after.Rejected index) txn
+staged_reply txn other = Reply.NotStaged after.Failed txn
 
 -- What a session is told of a commit that the keeper was asked for.
 abbrev pub commit_said : ℕ → List Change → GrantsView → Said → Reply
-commit_said count txn grants Made = reply.Committed (count + 1) txn grants
-commit_said count txn grants (Rejected index) = reply.NotCommitted (faults.Rejected index) txn grants
-commit_said count txn grants other = reply.NotCommitted faults.KeepFault txn grants
+commit_said count txn grants Made = Reply.Committed (count + 1) txn grants
+commit_said count txn grants (Rejected index) = Reply.NotCommitted (faults.Rejected index) txn grants
+commit_said count txn grants other = Reply.NotCommitted faults.KeepFault txn grants
 
 abbrev pub commit_by : ℕ → List Change → GrantsView → Said → Option CommitFault → Reply
-commit_by count txn grants said (Some fault) = reply.NotCommitted fault txn grants
+commit_by count txn grants said (Some fault) = Reply.NotCommitted fault txn grants
 commit_by count txn grants said None = commit_said count txn grants said
 
 -- What a session is told of its commit: it is refused for its first fault, and else is as the keeper says.
-abbrev pub commit_told : World → Sid → List Change → GrantsView → Said → Reply
-commit_told world who txn grants said =
+abbrev pub commit_reply : World → Sid → List Change → GrantsView → Said → Reply
+commit_reply world who txn grants said =
     let count = length (log_of world.past) in
     commit_by count txn grants said (commit_fault (is_open world who) who grants.items txn count log_cap)
 
@@ -180,8 +180,8 @@ put_step terms steps grant None stamp = release_step steps grant Drop
 abbrev pub event_of : Shape → World → Sid → Wanted → Said → Event
 event_of shape world who (wanted.Get key floor) said =
     stepped_on shape world.past who (wanted.Get key floor) key (λ terms steps. get_step terms steps key who floor (now_of world.past))
-event_of shape world who (wanted.Ask key) said = Called who (wanted.Ask key) (ask_told world.past key said)
-event_of shape world who (wanted.Staged key txn) said = Called who (wanted.Staged key txn) (staged_told txn said)
+event_of shape world who (wanted.Ask key) said = Called who (wanted.Ask key) (ask_reply world.past key said)
+event_of shape world who (wanted.Staged key txn) said = Called who (wanted.Staged key txn) (staged_reply txn said)
 event_of shape world who (wanted.Set key token value stamp) said =
     stepped_on shape world.past who (wanted.Set key token value stamp) key (λ terms steps. set_step terms steps key token value stamp (now_of world.past))
 event_of shape world who (wanted.QaReg key) said =
@@ -191,8 +191,8 @@ event_of shape world who (wanted.QaRead key) said =
 event_of shape world who (wanted.Delta key by) said =
     quarantined_on shape world who (wanted.Delta key by) key Delta by
 event_of shape world who (wanted.Commit txn grants) said =
-    Called who (wanted.Commit txn grants) (commit_told world who txn grants said)
-event_of shape world who wanted.End said = Called who wanted.End (reply.End (is_open world who))
+    Called who (wanted.Commit txn grants) (commit_reply world who txn grants said)
+event_of shape world who wanted.End said = Called who wanted.End (Reply.End (is_open world who))
 event_of shape world who (wanted.Dar grant) said =
     stepped_on shape world.past who (wanted.Dar grant) grant.key (λ terms steps. release_step steps grant Drop)
 event_of shape world who (wanted.Sar grant value stamp) said =
@@ -205,11 +205,11 @@ event_of shape world who (wanted.Raise grant) said =
     shown_on shape world.past who (wanted.Raise grant) grant.key (λ terms steps. raise_step steps grant) (raise_shown grant)
 event_of shape world who (wanted.Renew grant) said =
     shown_on shape world.past who (wanted.Renew grant) grant.key (λ terms steps. renew_step terms steps grant (now_of world.past)) (renewal_shown grant)
-event_of shape world who wanted.Nothing said = Called who wanted.Nothing reply.Nothing
+event_of shape world who wanted.Nothing said = Called who wanted.Nothing Reply.Nothing
 
 -- What a session wants next.
 abbrev pub wanted_of : World → Sid → Wanted
-wanted_of world who = wanted_by (plan_at who.number world.plans) (told_to who.number world.past)
+wanted_of world who = wanted_by (plan_at who.number world.plans) (heard_by who.number world.past)
 
 -- What an end tells the sweeper: which session was ended, and whether it was open.
 abbrev pub ended_as : Sid → Bool → SweepReply
@@ -219,12 +219,12 @@ ended_as who was = sweeps.Ended (record { sid = who; was = was })
 -- an end is one at the store, and a drop is a step on the shard of its key, where the quarantine stands.
 abbrev pub sweep_of : Shape → World → SweepWanted → Event
 sweep_of shape world (sweep.Scan place) =
-    Swept place (sweep.Scan place) None (scan_told place (first_due (now_of world.past) (steps_of place world.past)))
+    Swept place (sweep.Scan place) None (scan_reply place (first_due (now_of world.past) (steps_of place world.past)))
 sweep_of shape world (sweep.End who) = Swept 0 (sweep.End who) None (ended_as who (is_open world who))
 sweep_of shape world (sweep.Drop key token) =
     let place = shard_of key shape.shards in
     let step = sweep_step (steps_of place world.past) key token in
-    Swept place (sweep.Drop key token) step (sweeps.Dropped (sweep_told step))
+    Swept place (sweep.Drop key token) step (sweeps.Dropped (sweep_answer step))
 
 -- What the sweeper wants next.
 abbrev pub swept_next : Shape → World → SweepWanted
@@ -287,8 +287,8 @@ out_by terms request step out = out_after terms step out
 -- The grants that are out at the shard of this number after these events. A sweep leaves them.
 abbrev pub out_of : Shape → ℕ → List Event → List Permit
 out_of shape place [] = []
-out_of shape place (Stepped shard who request step told ∷ past) =
+out_of shape place (Stepped shard who request step reply ∷ past) =
     if shard == place then out_by (terms_of shape place) request step (out_of shape place past) else out_of shape place past
-out_of shape place (Called who request told ∷ past) = out_of shape place past
+out_of shape place (Called who request reply ∷ past) = out_of shape place past
 out_of shape place (Ticked now ∷ past) = out_of shape place past
-out_of shape place (Swept shard request made told ∷ past) = out_of shape place past
+out_of shape place (Swept shard request made reply ∷ past) = out_of shape place past

@@ -9,7 +9,7 @@ use Rattle.key_shard.specs.Shards.{ShardView, is_out}
 use Rattle.sql_keeper.specs.Stores.{StoreView}
 use Rattle.session_client.specs.declared.plans.Shape.{Shape}
 use Rattle.session_client.specs.declared.replies.Reply.{Reply}
-use Rattle.session_client.specs.declared.replies.Reply.TheVariants as reply
+use Rattle.session_client.specs.declared.replies.Reply.TheVariants as Reply
 use Rattle.sql_keeper.specs.declared.faults.AfterFault.TheVariants as staged
 use Rattle.sql_keeper.specs.declared.faults.CommitFault.TheVariants as faults
 use Rattle.session_client.specs.declared.replies.Fault.TheVariants as causes
@@ -18,11 +18,11 @@ use Rattle.session_client.specs.declared.replies.Wanted.TheVariants as wanted
 use Rattle.session_client.specs.declared.sessions.Session.{Session}
 use Rattle.session_client.specs.Follows.{plan_of, sid_of, IsReady, Follows}
 use Rattle.session_client.specs.Wants.{wants}
-use Rattle.core_history.specs.declared.told.Told.{Told}
+use Rattle.core_history.specs.declared.turn_lines.TurnLine.{TurnLine}
 use Rattle.core_history.specs.Cores.{Origin, HasShards, HasStore, HasPhases}
 use Rattle.core_history.specs.Events.{Event, now_of, reply_in}
 use Rattle.core_history.specs.Machine.{World, Said, Failed, event_of}
-use Rattle.core_history.specs.Told.{IsToldOf}
+use Rattle.core_history.specs.TurnLines.{IsLineOf}
 
 -- The grant is out at the shard of its key.
 abbrev pub IsGrantOut : List ShardView → Permit → Type 0
@@ -41,17 +41,17 @@ IsOutWhereReleased shards other = Unit {0}
 
 -- Whether a reply tells that memory ran out.
 abbrev pub tells_memory : Reply → Bool
-tells_memory (reply.Fault causes.Memory) = true
-tells_memory (reply.NotStaged staged.Memory txn) = true
-tells_memory (reply.NotCommitted faults.Memory txn grants) = true
-tells_memory (reply.SarBack grant) = true
-tells_memory (reply.RaiseBack grant) = true
-tells_memory (reply.Renew grant None) = true
+tells_memory (Reply.Fault causes.Memory) = true
+tells_memory (Reply.NotStaged staged.Memory txn) = true
+tells_memory (Reply.NotCommitted faults.Memory txn grants) = true
+tells_memory (Reply.SarBack grant) = true
+tells_memory (Reply.RaiseBack grant) = true
+tells_memory (Reply.Renew grant None) = true
 tells_memory other = false
 
 -- A turn ends where its reply tells that memory ran out, and goes on with any other reply.
 abbrev pub GoesOn : Reply → Result Reply Memory → Type 0
-GoesOn told result = MatchResult result (λ kept. (kept ≡ told) × IsFalse (tells_memory told)) (λ _. IsTrue (tells_memory told))
+GoesOn reply result = MatchResult result (λ kept. (kept ≡ reply) × IsFalse (tells_memory reply)) (λ _. IsTrue (tells_memory reply))
 
 -- The session of this number waits for its turn: it was told what came of its last request. A grant that it
 -- wants to release, raise or renew is out.
@@ -77,35 +77,35 @@ after world event = record { plans = world.plans; past = event ∷ world.past }
 -- A request on a shard was made: the shards stand after its event, whose reply this is. For want of memory they stand as before. The keeper is not asked.
 abbrev pub MakesStep : Shape → World → Sid → Wanted → List ShardView → Result Reply Memory → Type 0
 MakesStep shape world who request shards result =
-    MatchResult result (λ told. (told ≡ reply_in (event_of shape world who request Failed))
+    MatchResult result (λ reply. (reply ≡ reply_in (event_of shape world who request Failed))
     × HasShards shards shape (event_of shape world who request Failed ∷ world.past))
     (λ _. HasShards shards shape world.past)
 
 -- A request at the store was made, for some word of the keeper: the store stands after its event, whose reply this is. For want of memory it stands as before.
 abbrev pub MakesCall : Origin → World → Sid → Wanted → StoreView → Result Reply Memory → Type 0
 MakesCall origin world who request store result =
-    MatchResult result (λ told. (said : Said) × (told ≡ reply_in (event_of origin.shape world who request said))
+    MatchResult result (λ reply. (said : Said) × (reply ≡ reply_in (event_of origin.shape world who request said))
     × IsStoreAfter store origin (after world (event_of origin.shape world who request said)))
     (λ _. IsStoreAfter store origin world)
 
 -- A request was made, for some word of the keeper: shards and store stand after its event, whose reply this is. For want of memory they stand as before.
 abbrev pub Makes : Origin → World → Sid → Wanted → List ShardView → StoreView → Result Reply Memory → Type 0
 Makes origin world who request shards store result =
-    MatchResult result (λ told. (said : Said) × (told ≡ reply_in (event_of origin.shape world who request said))
+    MatchResult result (λ reply. (said : Said) × (reply ≡ reply_in (event_of origin.shape world who request said))
     × AreAfter shards store origin (after world (event_of origin.shape world who request said)))
     (λ _. AreAfter shards store origin world)
 
 -- A turn was taken in which this was wanted: shards, store and session stand after its
 -- event, whose line was told. For want of memory the event may have been made or not.
-abbrev pub TakesTurn : Origin → World → Sid → Wanted → List Reply → List ShardView → StoreView → Session → Result Told Memory → Type 0
+abbrev pub TakesTurn : Origin → World → Sid → Wanted → List Reply → List ShardView → StoreView → Session → Result TurnLine Memory → Type 0
 TakesTurn origin world who request heard shards store session result =
-    MatchResult result (λ told. (said : Said) × IsToldOf (event_of origin.shape world who request said) told
+    MatchResult result (λ printed. (said : Said) × IsLineOf (event_of origin.shape world who request said) printed
     × AreAfter shards store origin (after world (event_of origin.shape world who request said))
     × Follows session false (reply_in (event_of origin.shape world who request said) ∷ heard))
     (λ _. AreAfter shards store origin world ⊎ ((said : Said) × AreAfter shards store origin (after world (event_of origin.shape world who request said))))
 
 -- A turn of one of these sessions was taken at this time: it alone has changed, and not its plan and number, and it took its turn.
-abbrev pub TakesOne : List ShardView → StoreView → List Session → Sid → ℕ → List ShardView → StoreView → List Session → Result Told Memory → Type 0
+abbrev pub TakesOne : List ShardView → StoreView → List Session → Sid → ℕ → List ShardView → StoreView → List Session → Result TurnLine Memory → Type 0
 TakesOne shards store sessions who now shards_new store_new sessions_new result =
     (session : Session) → slice_get sessions (who.number - 1) ≡ Some session
     → (new : Session) × (sessions_new ≡ slice_set sessions (who.number - 1) new)

@@ -55,6 +55,6 @@ pub record IsFinal (shape : Shape) (key : QKey) (token : ℕ) (step : Step) (bef
 -- So it is of each drop that made a step, whichever sessions began, in whatever order turns were taken before and after it, and whatever the keeper said.
 abbrev pub SweepsAreFinal : Type 0
 SweepsAreFinal =
-    (shape : Shape) (moves : List Move) (before after : List Event) (home : ℕ) (key : QKey) (token : ℕ) (step : Step) (told : SweepReply)
-    → (world_of shape moves).past ≡ after ++ Swept home (sweep.Drop key token) (Some step) told ∷ before
+    (shape : Shape) (moves : List Move) (before after : List Event) (home : ℕ) (key : QKey) (token : ℕ) (step : Step) (reply : SweepReply)
+    → (world_of shape moves).past ≡ after ++ Swept home (sweep.Drop key token) (Some step) reply ∷ before
     → IsFinal shape key token step before after (world_of shape moves).past

@@ -7,11 +7,11 @@ ghost use Rattle.core_history.specs.Cores.{Origin, origin_of, HasShards, HasKept
 ghost use Rattle.core_history.specs.Machine.{Said, Move, Begin, Take, world_of, turn_event, log_cap};
 ghost use Rattle.sql_keeper.specs.Faults.{Counts, has_failed};
 ghost use Rattle.sql_keeper.specs.Stores.{opened};
-ghost use Rattle.core_history.specs.Told.{IsToldOf};
+ghost use Rattle.core_history.specs.TurnLines.{IsLineOf};
 
 use crate::sweep_lines::tick_line;
 use crate::sweeps::sweep_turn;
-use crate::told::Told;
+use crate::turn_lines::TurnLine;
 use crate::turns::session_turn;
 use expiry_sweeper::Sweeper;
 use key_shard::{Shard, Step};
@@ -58,7 +58,7 @@ impl<K: Keeper> Core<K> {
     pub fn new(alloc: Global, keeper: K, place: &Place, shape: Shape) -> Result<Core<K>, NoStore<K>>
         requires { IsShape shape }
         ensures begins { IfOk result (λ core. IsAt core (origin_of shape core) []) }
-        ensures held { IfOk result (λ core. IsSome core.store.told →
+        ensures held { IfOk result (λ core. IsSome core.store.known_rows →
             ForSome (K.holds keeper place.now shape.members)
             (λ held. core.store.ledger.opening ≡ held)) }
         ensures fresh { place.now ≡ Place.Fresh →
@@ -131,12 +131,12 @@ impl<K: Keeper> Core<K> {
     /// Takes a turn, of a session, of the clock or of the sweeper: one event, and its line. A keeper
     /// that fails is told as FAULT, and the core goes on. After want of memory the event may have been
     /// made or not, and the core is only to be read and taken apart.
-    pub fn step(&mut self, turn: Turn) -> Result<Told, Memory>
+    pub fn step(&mut self, turn: Turn) -> Result<TurnLine, Memory>
         requires running { IsRunning self.old }
         requires begun { HasBegun self.old turn }
         ensures takes { (origin : Origin) (moves : List Move) → IsAt self.old origin moves →
-            IfOk result (λ told. (said : Said) × IsAt self.new origin (Take turn said ∷ moves) ×
-            IsToldOf (turn_event origin.shape (world_of origin.shape moves) turn said) told) }
+            IfOk result (λ printed. (said : Said) × IsAt self.new origin (Take turn said ∷ moves) ×
+            IsLineOf (turn_event origin.shape (world_of origin.shape moves) turn said) printed) }
         ensures err { (origin : Origin) (moves : List Move) → IsAt self.old origin moves →
             OnErr result (HasKept self.new origin moves ⊎
             ((said : Said) × HasKept self.new origin (Take turn said ∷ moves))) }
@@ -149,12 +149,12 @@ impl<K: Keeper> Core<K> {
     }
 
     /// So many ticks pass on the clock, which stops at its type's end.
-    fn tick(&mut self, by: u64) -> Result<Told, Memory>
+    fn tick(&mut self, by: u64) -> Result<TurnLine, Memory>
         ensures takes { (origin : Origin) (moves : List Move) → IsAt self.old origin moves →
-            IfOk result (λ told. (said : Said) ×
+            IfOk result (λ printed. (said : Said) ×
             IsAt self.new origin (Take (Turn.Tick by) said ∷ moves) ×
-            IsToldOf (turn_event origin.shape (world_of origin.shape moves)
-            (Turn.Tick by) said) told) }
+            IsLineOf (turn_event origin.shape (world_of origin.shape moves)
+            (Turn.Tick by) said) printed) }
         ensures err { (origin : Origin) (moves : List Move) → IsAt self.old origin moves →
             OnErr result (HasKept self.new origin moves ⊎
             ((said : Said) × HasKept self.new origin (Take (Turn.Tick by) said ∷ moves))) }
@@ -164,13 +164,13 @@ impl<K: Keeper> Core<K> {
     }
 
     /// Takes a step of the sweeper's.
-    fn sweep(&mut self) -> Result<Told, Memory>
+    fn sweep(&mut self) -> Result<TurnLine, Memory>
         requires running { IsRunning self.old }
         ensures takes { (origin : Origin) (moves : List Move) → IsAt self.old origin moves →
-            IfOk result (λ told. (said : Said) ×
+            IfOk result (λ printed. (said : Said) ×
             IsAt self.new origin (Take Turn.Sweep said ∷ moves) ×
-            IsToldOf (turn_event origin.shape (world_of origin.shape moves)
-            Turn.Sweep said) told) }
+            IsLineOf (turn_event origin.shape (world_of origin.shape moves)
+            Turn.Sweep said) printed) }
         ensures err { (origin : Origin) (moves : List Move) → IsAt self.old origin moves →
             OnErr result (HasKept self.new origin moves ⊎
             ((said : Said) × HasKept self.new origin (Take Turn.Sweep said ∷ moves))) }
@@ -185,14 +185,14 @@ impl<K: Keeper> Core<K> {
     }
 
     /// Takes a session's turn.
-    fn step_of(&mut self, who: Sid) -> Result<Told, Memory>
+    fn step_of(&mut self, who: Sid) -> Result<TurnLine, Memory>
         requires running { IsRunning self.old }
         requires begun { HasBegun self.old (Turn.Session who) }
         ensures takes { (origin : Origin) (moves : List Move) → IsAt self.old origin moves →
-            IfOk result (λ told. (said : Said) ×
+            IfOk result (λ printed. (said : Said) ×
             IsAt self.new origin (Take (Turn.Session who) said ∷ moves) ×
-            IsToldOf (turn_event origin.shape (world_of origin.shape moves)
-            (Turn.Session who) said) told) }
+            IsLineOf (turn_event origin.shape (world_of origin.shape moves)
+            (Turn.Session who) said) printed) }
         ensures err { (origin : Origin) (moves : List Move) → IsAt self.old origin moves →
             OnErr result (HasKept self.new origin moves ⊎
             ((said : Said) × HasKept self.new origin (Take (Turn.Session who) said ∷ moves))) }
@@ -247,7 +247,7 @@ impl<K: Keeper> Core<K> {
     /// shards. It takes no memory.
     pub fn into_parts(self) -> (K, Rows, Vec<Commit>, Vec<Shard>)
         ensures started { K.is_started result.0 }
-        ensures rows { K.rows result.0 ≡ self.store.told }
+        ensures rows { K.rows result.0 ≡ self.store.known_rows }
         ensures faults { K.faults result.0 ≡ self.store.faults }
         ensures opening { result.1 ≡ self.store.ledger.opening }
         ensures log { result.2.items ≡ self.store.ledger.log }

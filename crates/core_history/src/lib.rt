@@ -2,7 +2,7 @@
 #![tactic(auto)]
 
 pub use cores::Core;
-pub use told::Told;
+pub use turn_lines::TurnLine;
 
 pub mod cores;
 mod homes;
@@ -11,5 +11,5 @@ pub mod lines;
 mod requests;
 mod sweep_lines;
 mod sweeps;
-pub mod told;
+pub mod turn_lines;
 mod turns;

@@ -7,7 +7,7 @@ ghost use Rattle.core_history.specs.Words.{spaced};
 
 use executor::Request;
 use itoa::Buffer;
-use key_shard::{Got, QAnswer, Raising, Rel, Renewal, SetAnswer, Stands};
+use key_shard::{Blocker, Got, QAnswer, Raising, Rel, Renewal, SetAnswer};
 use lease_table::Mode;
 use rows_model::{Memory, QKey, Sid, Value};
 use session_client::{Fault, Reply};
@@ -97,14 +97,14 @@ fn push_reply(alloc: Global, text: &mut Vec<u8>, reply: &Reply) -> Result<(), Me
         Reply::Answer { answer } => push_answer(text, answer.stamp, answer.value.bytes()),
         Reply::Staged { value, .. } => push_value(text, value.bytes()),
         Reply::NotStaged { fault, .. } => push_staged_fault(text, *fault),
-        Reply::Set { told } => push_set(alloc, text, *told),
-        Reply::Quar { told } => push_quarantine(text, told),
+        Reply::Set { answer } => push_set(alloc, text, *answer),
+        Reply::Quar { answer } => push_quarantine(text, answer),
         Reply::Committed { number, .. } => push_counted(text, b"COMMITTED", *number),
         Reply::NotCommitted { fault, .. } => push_commit_fault(alloc, text, *fault),
         Reply::End { was } => push_open(text, *was),
-        Reply::Rel { told } => push_release(alloc, text, *told),
-        Reply::Raise { told } => push_raising(text, told),
-        Reply::Renew { told, .. } => push_renewal(text, *told),
+        Reply::Rel { answer } => push_release(alloc, text, *answer),
+        Reply::Raise { answer } => push_raising(text, answer),
+        Reply::Renew { answer, .. } => push_renewal(text, *answer),
         Reply::Fault { fault: Fault::Keep } => push_word(text, b"FAULT"),
         Reply::SarBack { .. } | Reply::RaiseBack { .. } | Reply::Fault { .. } | Reply::Nothing => {
             Ok(())
@@ -137,19 +137,19 @@ fn push_answer(text: &mut Vec<u8>, stamp: u64, value: &[u8]) -> Result<(), Memor
     push_value(text, value)
 }
 
-fn push_set(alloc: Global, text: &mut Vec<u8>, told: SetAnswer) -> Result<(), Memory>
-    ensures { OnOk result (text.new.items ≡ text.old.items ++ spaced (set_words told)) }
+fn push_set(alloc: Global, text: &mut Vec<u8>, answer: SetAnswer) -> Result<(), Memory>
+    ensures { OnOk result (text.new.items ≡ text.old.items ++ spaced (set_words answer)) }
 {
-    match told {
+    match answer {
         SetAnswer::Stored { evicted } => push_evicting(alloc, text, b"STORED", evicted),
         SetAnswer::Void => push_word(text, b"VOID"),
     }
 }
 
-fn push_quarantine(text: &mut Vec<u8>, told: &QAnswer) -> Result<(), Memory>
-    ensures { OnOk result (text.new.items ≡ text.old.items ++ spaced (quarantine_words told.now)) }
+fn push_quarantine(text: &mut Vec<u8>, answer: &QAnswer) -> Result<(), Memory>
+    ensures { OnOk result (text.new.items ≡ text.old.items ++ spaced (quarantine_words answer.now)) }
 {
-    match told {
+    match answer {
         QAnswer::Granted { grant, old } => {
             push_counted(text, b"GRANTED", grant.token())?;
             push_brought(text, grant.mode(), old)
@@ -209,19 +209,19 @@ pub(crate) fn push_open(text: &mut Vec<u8>, was: bool) -> Result<(), Memory>
     push_word(text, if was { b"YES" } else { b"NO" })
 }
 
-pub(crate) fn push_release(alloc: Global, text: &mut Vec<u8>, told: Rel) -> Result<(), Memory>
-    ensures { OnOk result (text.new.items ≡ text.old.items ++ spaced (release_words told)) }
+pub(crate) fn push_release(alloc: Global, text: &mut Vec<u8>, answer: Rel) -> Result<(), Memory>
+    ensures { OnOk result (text.new.items ≡ text.old.items ++ spaced (release_words answer)) }
 {
-    match told {
+    match answer {
         Rel::Released { evicted } => push_evicting(alloc, text, b"RELEASED", evicted),
         Rel::Gone => push_word(text, b"GONE"),
     }
 }
 
-fn push_raising(text: &mut Vec<u8>, told: &Raising) -> Result<(), Memory>
-    ensures { OnOk result (text.new.items ≡ text.old.items ++ spaced (raising_words told.now)) }
+fn push_raising(text: &mut Vec<u8>, answer: &Raising) -> Result<(), Memory>
+    ensures { OnOk result (text.new.items ≡ text.old.items ++ spaced (raising_words answer.now)) }
 {
-    match told {
+    match answer {
         Raising::Raised { old, .. } => {
             push_word(text, b"RAISED")?;
             push_old(text, old)
@@ -231,10 +231,10 @@ fn push_raising(text: &mut Vec<u8>, told: &Raising) -> Result<(), Memory>
     }
 }
 
-fn push_renewal(text: &mut Vec<u8>, told: Option<Renewal>) -> Result<(), Memory>
-    ensures { OnOk result (text.new.items ≡ text.old.items ++ spaced (renewal_words told)) }
+fn push_renewal(text: &mut Vec<u8>, answer: Option<Renewal>) -> Result<(), Memory>
+    ensures { OnOk result (text.new.items ≡ text.old.items ++ spaced (renewal_words answer)) }
 {
-    match told {
+    match answer {
         Some(Renewal::Renewed { deadline }) => push_counted(text, b"RENEWED", deadline),
         Some(Renewal::Gone) => push_word(text, b"GONE"),
         None => Ok(()),
@@ -304,12 +304,12 @@ fn push_value(text: &mut Vec<u8>, value: &[u8]) -> Result<(), Memory>
     }
 }
 
-fn standing_word(standing: Stands) -> &'static [u8]
+fn standing_word(standing: Blocker) -> &'static [u8]
     ensures { result.now ≡ stands_word standing }
 {
     match standing {
-        Stands::I => b"I",
-        Stands::Q => b"Q",
+        Blocker::I => b"I",
+        Blocker::Q => b"Q",
     }
 }
 

@@ -79,22 +79,22 @@ fn make_at<K: Keeper>(store: &mut Store<K>, who: Sid, request: Wanted) -> Result
 }
 
 /// The reply, unless it tells that memory ran out: then the grants that it brings are let go.
-fn unless_memory(told: Reply) -> Result<Reply, Memory>
-    ensures { GoesOn told result }
+fn unless_memory(reply: Reply) -> Result<Reply, Memory>
+    ensures { GoesOn reply result }
 {
-    if tells_memory(&told) {
-        told.let_go();
+    if tells_memory(&reply) {
+        reply.let_go();
         return Err(Memory);
     }
-    Ok(told)
+    Ok(reply)
 }
 
 /// Whether a reply tells that memory ran out.
-fn tells_memory(told: &Reply) -> bool
-    ensures { result ≡ tells_memory told.now }
+fn tells_memory(reply: &Reply) -> bool
+    ensures { result ≡ tells_memory reply.now }
 {
     matches!(
-        told,
+        reply,
         Reply::Fault {
             fault: Fault::Memory
         } | Reply::NotStaged {
@@ -105,6 +105,6 @@ fn tells_memory(told: &Reply) -> bool
             ..
         } | Reply::SarBack { .. }
             | Reply::RaiseBack { .. }
-            | Reply::Renew { told: None, .. }
+            | Reply::Renew { answer: None, .. }
     )
 }

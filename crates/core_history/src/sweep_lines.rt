@@ -3,39 +3,39 @@ ghost use Rattle.std.specs.Prelude.{◌≡◌, ◌++◌, ℕ, Option, IfOk, OnOk
 ghost use Rattle.key_shard.specs.declared.steps.Step.{Step};
 ghost use Rattle.core_history.specs.Events.{Ticked, Swept};
 ghost use Rattle.core_history.specs.Lines.{sweep_words, swept_words};
-ghost use Rattle.core_history.specs.Told.{IsToldOf};
+ghost use Rattle.core_history.specs.TurnLines.{IsLineOf};
 ghost use Rattle.core_history.specs.Words.{spaced};
 
 use crate::lines::{push_counted, push_number, push_open, push_release, push_verb, push_word};
-use crate::told::Told;
+use crate::turn_lines::TurnLine;
 use expiry_sweeper::{SweepReply, SweepWanted};
 use rows_model::Memory;
 use std::alloc::Global;
 
 /// What a tick prints, by what the clock says after it.
-pub(crate) fn tick_line(alloc: Global, now: u64) -> Result<Told, Memory>
-    ensures { IfOk result (IsToldOf (Ticked now)) }
+pub(crate) fn tick_line(alloc: Global, now: u64) -> Result<TurnLine, Memory>
+    ensures { IfOk result (IsLineOf (Ticked now)) }
 {
     let mut line = Vec::from_slice(alloc, b"tick")?;
     push_number(&mut line, now)?;
     line.push(b'\n')?;
-    Ok(Told { line, fault: false })
+    Ok(TurnLine { line, fault: false })
 }
 
 /// What a step of the sweeper's prints: what was wanted, and the reply.
 pub(crate) fn sweep_line(
     alloc: Global,
     request: SweepWanted,
-    told: SweepReply,
-) -> Result<Told, Memory>
+    reply: SweepReply,
+) -> Result<TurnLine, Memory>
     ensures { (shard : ℕ) (made : Option Step) →
-        IfOk result (IsToldOf (Swept shard request made told)) }
+        IfOk result (IsLineOf (Swept shard request made reply)) }
 {
     let mut line = Vec::from_slice(alloc, b"sweep")?;
     push_wanted(alloc, &mut line, request)?;
-    push_told(alloc, &mut line, told)?;
+    push_swept(alloc, &mut line, reply)?;
     line.push(b'\n')?;
-    Ok(Told { line, fault: false })
+    Ok(TurnLine { line, fault: false })
 }
 
 fn push_wanted(alloc: Global, text: &mut Vec<u8>, request: SweepWanted) -> Result<(), Memory>
@@ -48,16 +48,16 @@ fn push_wanted(alloc: Global, text: &mut Vec<u8>, request: SweepWanted) -> Resul
     }
 }
 
-fn push_told(alloc: Global, text: &mut Vec<u8>, told: SweepReply) -> Result<(), Memory>
-    ensures { OnOk result (text.new.items ≡ text.old.items ++ spaced (swept_words told)) }
+fn push_swept(alloc: Global, text: &mut Vec<u8>, reply: SweepReply) -> Result<(), Memory>
+    ensures { OnOk result (text.new.items ≡ text.old.items ++ spaced (swept_words reply)) }
 {
-    match told {
+    match reply {
         SweepReply::Found { shard: _, due } => {
             push_verb(alloc, text, b"FOUND", &due.key)?;
             push_number(text, due.sid.number)
         }
         SweepReply::NoneFound { .. } => push_word(text, b"NONE"),
         SweepReply::Ended { closed } => push_open(text, closed.was()),
-        SweepReply::Dropped { told } => push_release(alloc, text, told),
+        SweepReply::Dropped { answer } => push_release(alloc, text, answer),
     }
 }

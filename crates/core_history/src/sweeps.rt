@@ -9,11 +9,11 @@ ghost use Rattle.core_history.specs.Cores.{Origin, HasShards, HasHome, HasHomes,
 ghost use Rattle.core_history.specs.Events.{now_of};
 ghost use Rattle.core_history.specs.Machine.{World};
 ghost use Rattle.core_history.specs.Requests.{AreAfter, IsStoreAfter};
-ghost use Rattle.core_history.specs.Sweeping.{IsNumbered, IsToldSweeper, SweepsShards, SweepsStore, Sweeps, TakesSweep};
+ghost use Rattle.core_history.specs.Sweeping.{IsNumbered, IsSweepReply, SweepsShards, SweepsStore, Sweeps, TakesSweep};
 
 use crate::homes::home_of;
 use crate::sweep_lines::sweep_line;
-use crate::told::Told;
+use crate::turn_lines::TurnLine;
 use expiry_sweeper::{SweepReply, SweepWanted, Sweeper};
 use key_shard::Shard;
 use rows_model::{Memory, QKey, Sid};
@@ -28,7 +28,7 @@ pub(crate) fn sweep_turn<K: Keeper>(
     shards: &mut Vec<Shard>,
     sweeper: &mut Sweeper,
     now: u64,
-) -> Result<Told, Memory>
+) -> Result<TurnLine, Memory>
     requires homes { HasHomes shards.old.items }
     requires all { shards_of sweeper.old ≡ length shards.old.items }
     requires numbered { IsNumbered (wanted_of sweeper.old) }
@@ -36,12 +36,12 @@ pub(crate) fn sweep_turn<K: Keeper>(
         AreAfter shards.old.items store.old origin world → now ≡ now_of world.past →
         HasSweeper sweeper.old origin.shape world.past →
         TakesSweep origin world shards.new.items store.new sweeper.new result }
-    ensures unasked { (store.new.told ≡ store.old.told) × (store.new.faults ≡ store.old.faults) }
+    ensures unasked { (store.new.known_rows ≡ store.old.known_rows) × (store.new.faults ≡ store.old.faults) }
 {
     let request = sweeper.wants();
-    let told = make_sweep(store, shards, request, now);
-    sweeper.told(told);
-    sweep_line(alloc, request, told)
+    let reply = make_sweep(store, shards, request, now);
+    sweeper.hear(reply);
+    sweep_line(alloc, request, reply)
 }
 
 /// Makes what the sweeper wants, at the time that the clock says now. It takes no memory.
@@ -58,7 +58,7 @@ fn make_sweep<K: Keeper>(
         AreAfter shards.old.items store.old origin world → now ≡ now_of world.past →
         Sweeps origin world request shards.new.items store.new result }
     ensures belongs { BelongsTo request result }
-    ensures unasked { (store.new.told ≡ store.old.told) × (store.new.faults ≡ store.old.faults) }
+    ensures unasked { (store.new.known_rows ≡ store.old.known_rows) × (store.new.faults ≡ store.old.faults) }
 {
     match request {
         SweepWanted::Scan { shard } => scan(shards, shard, now),
@@ -73,7 +73,7 @@ fn scan(shards: &mut Vec<Shard>, shard: u32, now: u64) -> SweepReply
     ensures left { shards.new.items ≡ shards.old.items }
     ensures told { (shape : Shape) (world : World) →
         HasShards shards.old.items shape world.past → now ≡ now_of world.past →
-        IsToldSweeper shape world (sweep.Scan shard) result }
+        IsSweepReply shape world (sweep.Scan shard) result }
     ensures belongs { BelongsTo (sweep.Scan shard) result }
 {
     match shards[shard as usize].expired(now) {
@@ -88,7 +88,7 @@ fn end<K: Keeper>(store: &mut Store<K>, sid: Sid) -> SweepReply
     ensures sweeps { (origin : Origin) (world : World) → IsStoreAfter store.old origin world →
         SweepsStore origin world (sweep.End sid) store.new result }
     ensures belongs { BelongsTo (sweep.End sid) result }
-    ensures unasked { (store.new.told ≡ store.old.told) × (store.new.faults ≡ store.old.faults) }
+    ensures unasked { (store.new.known_rows ≡ store.old.known_rows) × (store.new.faults ≡ store.old.faults) }
 {
     SweepReply::Ended {
         closed: store.end(sid),
@@ -105,6 +105,6 @@ fn drop_swept(shards: &mut Vec<Shard>, key: QKey, token: u64) -> SweepReply
 {
     let place = home_of(shards, &key);
     SweepReply::Dropped {
-        told: shards[place].sweep_drop(key, token),
+        answer: shards[place].sweep_drop(key, token),
     }
 }

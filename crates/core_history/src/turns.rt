@@ -11,7 +11,7 @@ ghost use Rattle.core_history.specs.Requests.{IsWaiting, AreAfter, TakesTurn, Ta
 
 use crate::lines::{line_of, tells_fault};
 use crate::requests::make;
-use crate::told::Told;
+use crate::turn_lines::TurnLine;
 use executor::Request;
 use key_shard::Shard;
 use rows_model::{Memory, Sid};
@@ -27,7 +27,7 @@ pub(crate) fn session_turn<K: Keeper>(
     sessions: &mut Vec<Session>,
     who: Sid,
     now: u64,
-) -> Result<Told, Memory>
+) -> Result<TurnLine, Memory>
     requires homes { HasHomes shards.old.items }
     requires some { 1 ≤ who.number }
     requires begun { who.number ≤ length sessions.old.items }
@@ -49,7 +49,7 @@ fn take_turn<K: Keeper>(
     session: &mut Session,
     who: Sid,
     now: u64,
-) -> Result<Told, Memory>
+) -> Result<TurnLine, Memory>
     requires homes { HasHomes shards.old.items }
     requires some { 1 ≤ who.number }
     requires waits { IsWaiting shards.old.items who session.old }
@@ -68,7 +68,7 @@ fn take_turn<K: Keeper>(
         Ok(reply) => {
             let line = line_of(alloc, who, asked, &reply);
             let fault = tells_fault(&reply);
-            match session.told(reply) {
+            match session.hear(reply) {
                 Ok(()) => told_of(line, fault),
                 Err(Memory) => Err(Memory),
             }
@@ -77,11 +77,11 @@ fn take_turn<K: Keeper>(
     }
 }
 
-fn told_of(line: Result<Vec<u8>, Memory>, fault: bool) -> Result<Told, Memory>
-    ensures ok { IfOk result (λ told. (line ≡ Ok told.line) × (told.fault ≡ fault)) }
+fn told_of(line: Result<Vec<u8>, Memory>, fault: bool) -> Result<TurnLine, Memory>
+    ensures ok { IfOk result (λ printed. (line ≡ Ok printed.line) × (printed.fault ≡ fault)) }
 {
     match line {
-        Ok(line) => Ok(Told { line, fault }),
+        Ok(line) => Ok(TurnLine { line, fault }),
         Err(memory) => Err(memory),
     }
 }

@@ -13,7 +13,7 @@ use Rattle.lease_table.specs.declared.records.Mode.TheVariants.{Invalidate, Refr
 use Rattle.key_shard.specs.Permit.{Permit}
 use Rattle.session_client.specs.Plans.{mode_on, shift_in}
 use Rattle.session_client.specs.declared.replies.Reply.{Reply}
-use Rattle.session_client.specs.declared.replies.Reply.TheVariants as reply
+use Rattle.session_client.specs.declared.replies.Reply.TheVariants as Reply
 use Rattle.session_client.specs.declared.replies.Wanted.{Wanted}
 use Rattle.session_client.specs.declared.replies.Wanted.TheVariants as wanted
 use Rattle.session_client.specs.Wants.{Given, given, granted, number_of, released, turned, write_wants, Writing, quarantine_as, commit_with, new_value, release_next}
@@ -24,7 +24,7 @@ use Rattle.desk_book.specs.Books.{Book, Held, may_write}
 use Rattle.desk_book.specs.Borne.{IsBorne, IsPresent, IsOwn, IsDone, MayQuarantine, Holds, Refreshes, Shifts}
 use Rattle.desk_book.proofs.ListLemmas.{each-at, any-here, any-later, drop_at}
 use Rattle.desk_book.proofs.GivenLemmas.{held_of, given-at}
-use Rattle.desk_book.proofs.WriterLemmas.{Stands, IsNumbered, is-now, commit_in, goes-on, is_over, came_back}
+use Rattle.desk_book.proofs.WriterLemmas.{IsBooked, IsNumbered, is-now, commit_in, goes-on, is_over, came_back}
 use Rattle.desk_book.proofs.WriterSteps.{IsUnended}
 
 -- each grant of a list is held where the list is held
@@ -48,16 +48,16 @@ done-as book P txn number e p = subst (λ c. IsSomeAnd c (λ (done : Committed).
 -- a session that has the number of no commit isn't told to drop, unless a grant came back
 kept : (short : Bool) (heard : List Reply) → number_of heard ≡ None → came_back heard ≡ false → release_by short heard ≡ Keeps
 kept short [] none back = refl
-kept short (reply.SarBack grant ∷ heard) none back = absurd (false≢true (sym back))
+kept short (Reply.SarBack grant ∷ heard) none back = absurd (false≢true (sym back))
 kept short (other ∷ heard) none back = ap (release_after short) none
 
 -- a session that is ending wants a release
 ending-wants : (writing : Writing) (short : Bool) (heard : List Reply) → is_ending heard ≡ true → write_wants writing short heard ≡ release_next writing short heard
 ending-wants writing short [] ends = absurd (false≢true ends)
-ending-wants writing short (reply.Committed number txn grants ∷ heard) ends = refl
-ending-wants writing short (reply.End was ∷ heard) ends = refl
-ending-wants writing short (reply.Rel told ∷ heard) ends = refl
-ending-wants writing short (reply.SarBack grant ∷ heard) ends = refl
+ending-wants writing short (Reply.Committed number txn grants ∷ heard) ends = refl
+ending-wants writing short (Reply.End was ∷ heard) ends = refl
+ending-wants writing short (Reply.Rel answer ∷ heard) ends = refl
+ending-wants writing short (Reply.SarBack grant ∷ heard) ends = refl
 ending-wants writing short (other ∷ heard) ends = absurd (false≢true ends)
 
 not-kept : (txn : List Change) (o : Option Given) (grant : Permit) → release_of txn Keeps o ≡ wanted.Dar grant → ⊥
@@ -66,7 +66,7 @@ not-kept txn None grant e = cc
 
 -- what a session wants that drops a key's value comes after its commit
 dropped : (who : Sid) (writing : Writing) (short : Bool) (heard : List Reply) (book : Book) (grant : Permit) → is_ending heard ≡ true
-    → write_wants writing short heard ≡ wanted.Dar grant → Stands who writing heard book → IsNumbered heard
+    → write_wants writing short heard ≡ wanted.Dar grant → IsBooked who writing heard book → IsNumbered heard
 dropped who writing short heard book grant ends e s = by (number_of heard) refl (came_back heard) refl
   where
     by : (n : Option ℕ) → number_of heard ≡ n → (b : Bool) → came_back heard ≡ b → IsNumbered heard
@@ -77,7 +77,7 @@ dropped who writing short heard book grant ends e s = by (number_of heard) refl 
         (ap (λ how. release_of writing.txn how (slice_get (given heard) (released heard))) (sym (kept short heard is back))
         ∙ sym (ending-wants writing short heard ends) ∙ e))
 
-pub write-borne : (who : Sid) (writing : Writing) (short : Bool) (heard : List Reply) (book : Book) → Stands who writing heard book
+pub write-borne : (who : Sid) (writing : Writing) (short : Bool) (heard : List Reply) (book : Book) → IsBooked who writing heard book
     → IsBorne book who (write_wants writing short heard)
 write-borne who writing short heard book s =
     write_cases (λ request. write_wants writing short heard ≡ request → IsBorne book who request) writing short heard
@@ -100,8 +100,8 @@ write-borne who writing short heard book s =
     (λ grant at going e. tt)
     (λ one at ending none e. ((now, own one (released heard) at), uncommitted none, s.ended ending none))
     (λ one at ending e.
-    let told = dropped who writing short heard book one.permit ending e s in
-    ((now, own one (released heard) at), has-committed told.number told.is))
+    let ended_so = dropped who writing short heard book one.permit ending e s in
+    ((now, own one (released heard) at), has-committed ended_so.number ended_so.is))
     (λ one number at ending is refresh e. put one number at is (new_value one.permit.key writing.txn one.old) refl)
     (λ one number at ending is delta e. (
       (now, own one (released heard) at),

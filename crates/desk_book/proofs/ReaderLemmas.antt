@@ -9,7 +9,7 @@ use Rattle.key_shard.specs.declared.replies.Got.{Got}
 use Rattle.key_shard.specs.declared.replies.Got.TheVariants as got
 use Rattle.sql_keeper.specs.declared.stores.Answer.{Answer}
 use Rattle.session_client.specs.declared.replies.Reply.{Reply}
-use Rattle.session_client.specs.declared.replies.Reply.TheVariants as reply
+use Rattle.session_client.specs.declared.replies.Reply.TheVariants as Reply
 use Rattle.session_client.specs.declared.replies.Wanted.{Wanted}
 use Rattle.session_client.specs.declared.replies.Wanted.TheVariants as wanted
 use Rattle.session_client.specs.Belongs.{Belongs}
@@ -28,8 +28,8 @@ lease_on key token = record { key = key; token = token }
 
 -- the book holds the lease that the session was told of last, and the answer that it was told of behind one
 abbrev pub HoldsLease : QKey → List Reply → Book → Type 0
-HoldsLease key (reply.Got (got.Lease token) ∷ heard) book = (book.lease ≡ Some (lease_on key token)) × (book.answers ≡ [])
-HoldsLease key (reply.Answer answer ∷ reply.Got (got.Lease token) ∷ heard) book =
+HoldsLease key (Reply.Got (got.Lease token) ∷ heard) book = (book.lease ≡ Some (lease_on key token)) × (book.answers ≡ [])
+HoldsLease key (Reply.Answer answer ∷ Reply.Got (got.Lease token) ∷ heard) book =
     (book.lease ≡ Some (lease_on key token)) × (book.answers ≡ answer ∷ []) × (answer.key ≡ key)
 HoldsLease key other book = Unit {0}
 
@@ -39,24 +39,24 @@ pub record Reads (who : Sid) (key : QKey) (heard : List Reply) (book : Book) : T
   pub lease : HoldsLease key heard book
 
 -- what it is told of its key
-get-step : (who : Sid) (key : QKey) (floor : ℕ) (heard : List Reply) (book : Book) (told : Reply) → Belongs who (wanted.Get key floor) told
-    → Reads who key heard book → Reads who key (told ∷ heard) (note_of (wanted.Get key floor) told book)
-get-step who key floor heard book (reply.Got (got.Lease token)) belongs r = record { present = r.present; lease = (refl, refl) }
-get-step who key floor heard book (reply.Got (got.Hit value stamp)) belongs r = record { present = r.present; lease = tt }
-get-step who key floor heard book (reply.Got (got.Again standing)) belongs r = record { present = r.present; lease = tt }
-get-step who key floor heard book (reply.Got got.Own) belongs r = record { present = r.present; lease = tt }
-get-step who key floor heard book (reply.Fault fault) belongs r = record { present = r.present; lease = tt }
+get-step : (who : Sid) (key : QKey) (floor : ℕ) (heard : List Reply) (book : Book) (reply : Reply) → Belongs who (wanted.Get key floor) reply
+    → Reads who key heard book → Reads who key (reply ∷ heard) (note_of (wanted.Get key floor) reply book)
+get-step who key floor heard book (Reply.Got (got.Lease token)) belongs r = record { present = r.present; lease = (refl, refl) }
+get-step who key floor heard book (Reply.Got (got.Hit value stamp)) belongs r = record { present = r.present; lease = tt }
+get-step who key floor heard book (Reply.Got (got.Again standing)) belongs r = record { present = r.present; lease = tt }
+get-step who key floor heard book (Reply.Got got.Own) belongs r = record { present = r.present; lease = tt }
+get-step who key floor heard book (Reply.Fault fault) belongs r = record { present = r.present; lease = tt }
 get-step who key floor heard book other belongs r = elim belongs [ ]
 
 -- the answer is kept behind a lease on its key
 answered : (key : QKey) (answer : Answer) (book : Book) → answer.key ≡ key → (heard : List Reply) → HoldsLease key heard book
-    → HoldsLease key (reply.Answer answer ∷ heard) (with_answer answer book)
-answered key answer book same (reply.Got (got.Lease token) ∷ heard) h =
+    → HoldsLease key (Reply.Answer answer ∷ heard) (with_answer answer book)
+answered key answer book same (Reply.Got (got.Lease token) ∷ heard) h =
     let on : is_on book.lease answer.key ≡ true =
     ap (λ l. is_on l answer.key) h.0 ∙ ap (λ k. same_key key k) same ∙ same_key-refl key in
     let new : Book = record book { answers = with_place book.answers ++ answer ∷ [] } in
     let kept : with_answer answer book ≡ new = ap (λ b. cond b new book) on in
-    subst (λ b. HoldsLease key (reply.Answer answer ∷ reply.Got (got.Lease token) ∷ heard) b) (sym kept)
+    subst (λ b. HoldsLease key (Reply.Answer answer ∷ Reply.Got (got.Lease token) ∷ heard) b) (sym kept)
     (h.0, ap (λ l. with_place l ++ answer ∷ []) h.1, same)
 answered key answer book same other h = tt
 
@@ -67,33 +67,33 @@ present-kept answer book = by (is_on book.lease answer.key)
     by true = refl
     by false = refl
 
-ask-step : (who : Sid) (key : QKey) (heard : List Reply) (book : Book) (told : Reply) → Belongs who (wanted.Ask key) told
-    → Reads who key heard book → Reads who key (told ∷ heard) (note_of (wanted.Ask key) told book)
-ask-step who key heard book (reply.Answer answer) belongs r =
+ask-step : (who : Sid) (key : QKey) (heard : List Reply) (book : Book) (reply : Reply) → Belongs who (wanted.Ask key) reply
+    → Reads who key heard book → Reads who key (reply ∷ heard) (note_of (wanted.Ask key) reply book)
+ask-step who key heard book (Reply.Answer answer) belongs r =
     record { present = present-kept answer book ∙ r.present; lease = answered key answer book belongs heard r.lease }
-ask-step who key heard book (reply.Fault fault) belongs r = record { present = r.present; lease = tt }
+ask-step who key heard book (Reply.Fault fault) belongs r = record { present = r.present; lease = tt }
 ask-step who key heard book other belongs r = elim belongs [ ]
 
-set-step : (who : Sid) (key : QKey) (token : ℕ) (value : List ℕ) (stamp : ℕ) (heard : List Reply) (book : Book) (told : Reply)
-    → Belongs who (wanted.Set key token value stamp) told
-    → Reads who key heard book → Reads who key (told ∷ heard) (note_of (wanted.Set key token value stamp) told book)
-set-step who key token value stamp heard book (reply.Set answer) belongs r = record { present = r.present; lease = tt }
-set-step who key token value stamp heard book (reply.Fault fault) belongs r = record { present = r.present; lease = tt }
+set-step : (who : Sid) (key : QKey) (token : ℕ) (value : List ℕ) (stamp : ℕ) (heard : List Reply) (book : Book) (reply : Reply)
+    → Belongs who (wanted.Set key token value stamp) reply
+    → Reads who key heard book → Reads who key (reply ∷ heard) (note_of (wanted.Set key token value stamp) reply book)
+set-step who key token value stamp heard book (Reply.Set answer) belongs r = record { present = r.present; lease = tt }
+set-step who key token value stamp heard book (Reply.Fault fault) belongs r = record { present = r.present; lease = tt }
 set-step who key token value stamp heard book other belongs r = elim belongs [ ]
 
-nothing-step : (who : Sid) (key : QKey) (heard : List Reply) (book : Book) (told : Reply) → Belongs who wanted.Nothing told
-    → Reads who key heard book → Reads who key (told ∷ heard) (note_of wanted.Nothing told book)
-nothing-step who key heard book reply.Nothing belongs r = record { present = r.present; lease = tt }
+nothing-step : (who : Sid) (key : QKey) (heard : List Reply) (book : Book) (reply : Reply) → Belongs who wanted.Nothing reply
+    → Reads who key heard book → Reads who key (reply ∷ heard) (note_of wanted.Nothing reply book)
+nothing-step who key heard book Reply.Nothing belongs r = record { present = r.present; lease = tt }
 nothing-step who key heard book other belongs r = elim belongs [ ]
 
 -- whatever a session that reads is told, its book holds what it has to
-pub read-step : (who : Sid) (key : QKey) (floor : ℕ) (heard : List Reply) (book : Book) (told : Reply) → Belongs who (read_wants key floor heard) told
-    → Reads who key heard book → Reads who key (told ∷ heard) (note_of (read_wants key floor heard) told book)
-read-step who key floor heard book told belongs r =
-    read_cases (λ request. Belongs who request told → Reads who key (told ∷ heard) (note_of request told book)) key floor heard
-    (λ b. get-step who key floor heard book told b r) (λ b. ask-step who key heard book told b r)
-    (λ token answer rest e b. set-step who key token answer.value answer.stamp heard book told b r)
-    (λ b. nothing-step who key heard book told b r) belongs
+pub read-step : (who : Sid) (key : QKey) (floor : ℕ) (heard : List Reply) (book : Book) (reply : Reply) → Belongs who (read_wants key floor heard) reply
+    → Reads who key heard book → Reads who key (reply ∷ heard) (note_of (read_wants key floor heard) reply book)
+read-step who key floor heard book reply belongs r =
+    read_cases (λ request. Belongs who request reply → Reads who key (reply ∷ heard) (note_of request reply book)) key floor heard
+    (λ b. get-step who key floor heard book reply b r) (λ b. ask-step who key heard book reply b r)
+    (λ token answer rest e b. set-step who key token answer.value answer.stamp heard book reply b r)
+    (λ b. nothing-step who key heard book reply b r) belongs
 
 -- what a session that reads wants is borne out by its book
 pub read-borne : (who : Sid) (key : QKey) (floor : ℕ) (heard : List Reply) (book : Book) → Reads who key heard book

@@ -5,7 +5,7 @@ use Rattle.session_client.specs.Plans.{writes}
 use Rattle.session_client.specs.Wants.{wants}
 use Rattle.session_client.specs.Follows.{IsRefreshing}
 use Rattle.session_client.specs.Belongs.{Belongs}
-use Rattle.session_client.specs.Desks.{Call, Began, Asked}
+use Rattle.session_client.specs.Desks.{Exchange, Began, Asked}
 use Rattle.session_client.specs.declared.plans.Plan.{Plan}
 use Rattle.session_client.specs.declared.replies.Reply.{Reply}
 use Rattle.desk_book.specs.Borne.{IsBorne}
@@ -18,14 +18,14 @@ IsShort before book now = (now ≡ before) ⊎ (IsRefreshing book × (now ≡ tr
 
 -- A session of this number and plan began and has heard these replies by these calls, both the latest first: each
 -- request is the one that it wanted after the replies before, and each reply belongs to its request.
-abbrev pub HasAsked : Sid → Plan → Bool → List Reply → List Call → Type 0
+abbrev pub HasAsked : Sid → Plan → Bool → List Reply → List Exchange → Type 0
 HasAsked who plan short [] calls = (short ≡ false) × (calls ≡ Began (writes plan) who ∷ [])
 HasAsked who plan short (book ∷ heard) calls =
-    (before : Bool) × (earlier : List Call) × HasAsked who plan before heard earlier
+    (before : Bool) × (earlier : List Exchange) × HasAsked who plan before heard earlier
     × Belongs who (wants plan before heard) book × IsShort before book short × (calls ≡ Asked who (wants plan before heard) book ∷ earlier)
 
 -- The book of its calls bears out what a session wants next, whatever it has heard.
 abbrev pub WantsAreBorne : Type 0
 WantsAreBorne =
-    (who : Sid) (plan : Plan) (short : Bool) (heard : List Reply) (calls : List Call) → HasAsked who plan short heard calls
+    (who : Sid) (plan : Plan) (short : Bool) (heard : List Reply) (calls : List Exchange) → HasAsked who plan short heard calls
     → IsBorne (book_of calls) who (wants plan short heard)

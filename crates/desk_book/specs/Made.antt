@@ -4,7 +4,7 @@ use Rattle.rows_model.specs.declared.keys.Sid.{Sid}
 use Rattle.key_shard.specs.declared.replies.QAnswer.TheVariants as quarantine
 use Rattle.key_shard.specs.declared.replies.Raising.TheVariants as raising
 use Rattle.sql_keeper.specs.declared.faults.CommitFault.TheVariants as fault
-use Rattle.session_client.specs.declared.replies.Reply.TheVariants as reply
+use Rattle.session_client.specs.declared.replies.Reply.TheVariants as Reply
 use Rattle.session_client.specs.declared.replies.Wanted.{Wanted}
 use Rattle.session_client.specs.declared.replies.Wanted.TheVariants as wanted
 use Rattle.desk_book.specs.declared.forms.Form.{Form}
@@ -27,9 +27,9 @@ made_in form.VoidSet who (wanted.Set key token value stamp) = made.One (wanted.S
 made_in form.NoValue who (wanted.Sar grant value stamp) = made.One (wanted.Sar grant None stamp)
 made_in form.DropOnly who (wanted.Apply grant stamp) = made.One (wanted.Dar grant)
 made_in (form.EndDrop session) who request = end_drop session request
-made_in form.Shared who (wanted.Raise grant) = made.Told (reply.Raise (raising.Shared grant grant.sid))
-made_in (form.Refused mode) who (wanted.QaReg key) = made.Told (reply.Quar (quarantine.Refused who mode))
-made_in (form.Refused mode) who (wanted.QaRead key) = made.Told (reply.Quar (quarantine.Refused who mode))
-made_in (form.Refused mode) who (wanted.Delta key by) = made.Told (reply.Quar (quarantine.Refused who mode))
-made_in form.NotCommitted who (wanted.Commit txn grants) = made.Told (reply.NotCommitted fault.Ended txn grants)
+made_in form.Shared who (wanted.Raise grant) = made.Answered (Reply.Raise (raising.Shared grant grant.sid))
+made_in (form.Refused mode) who (wanted.QaReg key) = made.Answered (Reply.Quar (quarantine.Refused who mode))
+made_in (form.Refused mode) who (wanted.QaRead key) = made.Answered (Reply.Quar (quarantine.Refused who mode))
+made_in (form.Refused mode) who (wanted.Delta key by) = made.Answered (Reply.Quar (quarantine.Refused who mode))
+made_in form.NotCommitted who (wanted.Commit txn grants) = made.Answered (Reply.NotCommitted fault.Ended txn grants)
 made_in other who request = made.One request

@@ -17,7 +17,7 @@ pub enum Made {
     /// that of the drop, or Gone where the request was a raise.
     EndDrop { session: Sid, grant: Grant },
     /// None: this is the reply.
-    Told { reply: Reply },
+    Answered { reply: Reply },
 }
 
 impl Form {
@@ -112,9 +112,9 @@ fn share(request: Wanted) -> Made
     match request {
         Wanted::Raise { grant } => {
             let holder = grant.sid();
-            Made::Told {
+            Made::Answered {
                 reply: Reply::Raise {
-                    told: Raising::Shared { grant, holder },
+                    answer: Raising::Shared { grant, holder },
                 },
             }
         }
@@ -127,9 +127,9 @@ fn refuse(who: Sid, mode: Mode, request: Wanted) -> Made
 {
     match request {
         Wanted::QaReg { key: _ } | Wanted::QaRead { key: _ } | Wanted::Delta { key: _, by: _ } => {
-            Made::Told {
+            Made::Answered {
                 reply: Reply::Quar {
-                    told: QAnswer::Refused { holder: who, mode },
+                    answer: QAnswer::Refused { holder: who, mode },
                 },
             }
         }
@@ -141,7 +141,7 @@ fn commit_nothing(request: Wanted) -> Made
     ensures { (who : Sid) → result ≡ made_in Form.NotCommitted who request }
 {
     match request {
-        Wanted::Commit { txn, grants } => Made::Told {
+        Wanted::Commit { txn, grants } => Made::Answered {
             reply: Reply::NotCommitted {
                 fault: CommitFault::Ended,
                 txn,

@@ -2,7 +2,7 @@
 use Rattle.std.proofs.Common.{ℕ, ◌≡◌, ◌++◌, List, [], ◌∷◌, Option, Some, None, refl, sym, ap, subst, ◌∙◌, append_assoc, append-nil, inl, inr}
 use Rattle.std.specs.Option.{option_map, ForSome}
 use Rattle.iq_outside.specs.Outside.{Gains, HandedBack, IsFresh, LineRecord, ReadSide, WriteSide}
-use Rattle.session_client.specs.Desks.{Call}
+use Rattle.session_client.specs.Desks.{Exchange}
 use Rattle.plain_ops.specs.Desks.{PlainCall}
 use Rattle.conn_server.specs.declared.ends.LineEnd.{LineEnd}
 use Rattle.conn_server.specs.Service.{IsServed, Served}
@@ -51,9 +51,9 @@ given-all (Some first) after bytes gains none = λ given is.
     let alone : Some bytes ≡ Some given = subst (λ (l : List ℕ). Some (l ++ bytes) ≡ Some given) (none first refl) all in
     cc
 
-both : (given taken : Option (List ℕ)) (all all_taken : List ℕ) (calls : List Call) (plains : List PlainCall) (end : LineEnd)
+both : (given taken : Option (List ℕ)) (all all_taken : List ℕ) (calls : List Exchange) (plains : List PlainCall) (end : LineEnd)
     → ForSome given (λ bytes. bytes ≡ all) → ForSome taken (λ bytes. bytes ≡ all_taken) → Served all all_taken calls plains end
-    → ForSome given (λ bytes. ForSome taken (λ took. (asked : List Call) × (others : List PlainCall) × Served bytes took asked others end))
+    → ForSome given (λ bytes. ForSome taken (λ took. (asked : List Exchange) × (others : List PlainCall) × Served bytes took asked others end))
 both given taken all all_taken calls plains end g t served = λ bytes is took are. (
   calls,
   plains,
@@ -62,7 +62,7 @@ both given taken all all_taken calls plains end g t served = λ bytes is took ar
 )
 
 -- a line that had given and taken nothing was served to its end
-pub ended-fresh : (reads reads_new : ReadSide) (writes writes_new : WriteSide) (old new : Option (List Call)) (plain plain_new : Option (List PlainCall))
+pub ended-fresh : (reads reads_new : ReadSide) (writes writes_new : WriteSide) (old new : Option (List Exchange)) (plain plain_new : Option (List PlainCall))
     (tends tends_new : Option ℕ) (end : LineEnd)
     → IsServed reads reads_new writes writes_new old new plain plain_new tends tends_new end → IsFresh reads.given writes.taken
     → IsEnded (record { reads = reads_new; writes = writes_new }) end
@@ -103,7 +103,7 @@ fresh-sides reads writes left given taken reads_failed writes_failed r w fresh =
     subst (λ (x : ReadSide). IsFresh x.given writes.taken) (sym r) (subst (λ (x : WriteSide). IsFresh given x.taken) (sym w) fresh)
 
 -- a line that had given and taken nothing, was served and then finished
-pub line-ended : (reads reads_new reads_end : ReadSide) (writes writes_new writes_end : WriteSide) (old new : Option (List Call))
+pub line-ended : (reads reads_new reads_end : ReadSide) (writes writes_new writes_end : WriteSide) (old new : Option (List Exchange))
     (plain plain_new : Option (List PlainCall)) (tends tends_new : Option ℕ) (end : LineEnd)
     → IsServed reads reads_new writes writes_new old new plain plain_new tends tends_new end → IsFresh reads.given writes.taken
     → reads_end ≡ reads_new → writes_end ≡ writes_new

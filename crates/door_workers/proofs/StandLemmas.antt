@@ -6,8 +6,8 @@ use Rattle.std.proofs.lemmas.Bool.{leb-false, leb-true}
 use Rattle.iq_outside.specs.Outside.{Rose, count_up}
 use Rattle.conn_server.specs.declared.ends.LineEnd.{LineEnd}
 use Rattle.door_workers.specs.declared.progress.Progress.{Progress}
-use Rattle.door_workers.specs.Attending.{GivesBack, HaveEnds, IsEnough, Stands, StandsWith, WasAttended, begun, count_up_by, is_full, is_over}
-use Rattle.door_workers.specs.Told.{Told}
+use Rattle.door_workers.specs.Attending.{GivesBack, HaveEnds, IsEnough, HaveCome, HaveComeWith, WasAttended, at_start, count_up_by, is_full, is_over}
+use Rattle.door_workers.specs.DoorSeen.{DoorSeen}
 
 -- ---- nothing is done yet
 
@@ -23,8 +23,8 @@ none_back : (closed : Option ℕ) → GivesBack 0 closed closed
 none_back None = inl refl
 none_back (Some count) = inr (ap (λ (n : ℕ). Some n) (omega arith))
 
-stand-first : (first : Told) (most : Option ℕ) (ends : Vec LineEnd Global) → ends.items ≡ [] → IfSome most (λ m. m ≤ vec_capacity ends)
-    → Stands first most first (begun most ends) 0 0
+stand-first : (first : DoorSeen) (most : Option ℕ) (ends : Vec LineEnd Global) → ends.items ≡ [] → IfSome most (λ m. m ≤ vec_capacity ends)
+    → HaveCome first most first (at_start most ends) 0 0
 stand-first first most ends none room = record {
   most_is = refl;
   few = none_few most;
@@ -39,10 +39,10 @@ stand-first first most ends none room = record {
   given_back = none_back first.closed;
 }
 
-pub at-first : (first : Told) (most : Option ℕ) (ends : Vec LineEnd Global) (so_far : Progress) → so_far ≡ begun most ends → ends.items ≡ []
-    → IfSome most (λ m. m ≤ vec_capacity ends) → StandsWith first so_far.most first so_far 0
+pub at-first : (first : DoorSeen) (most : Option ℕ) (ends : Vec LineEnd Global) (so_far : Progress) → so_far ≡ at_start most ends → ends.items ≡ []
+    → IfSome most (λ m. m ≤ vec_capacity ends) → HaveComeWith first so_far.most first so_far 0
 at-first first most ends so_far is none room =
-    subst (λ (p : Progress). StandsWith first p.most first p 0) (sym is) (0, stand-first first most ends none room)
+    subst (λ (p : Progress). HaveComeWith first p.most first p 0) (sym is) (0, stand-first first most ends none room)
 
 -- ---- how many lines there may be
 
@@ -76,11 +76,11 @@ same-counted lines others now new first same is counted = is ∙ counted ∙ ap 
 
 -- ---- one more line was accepted
 
-pub one-accepted : (first : Told) (most : Option ℕ) (now new : Told) (so_far : Progress) (accepted back out : ℕ)
+pub one-accepted : (first : DoorSeen) (most : Option ℕ) (now new : DoorSeen) (so_far : Progress) (accepted back out : ℕ)
     → is_over so_far ≡ false → IfSome so_far.most (λ m. m < 2 ^ 32) → accepted ≡ count_up so_far.accepted
     → new.bound ≡ now.bound → new.lines ≡ count_up now.lines → new.faults ≡ now.faults → new.ended ≡ now.ended → new.closed ≡ now.closed
-    → Stands first most now so_far back out
-    → Stands first most new (record { most = so_far.most; accepted = accepted; ends = so_far.ends; ended = so_far.ended; failed = so_far.failed }) back (out + 1)
+    → HaveCome first most now so_far back out
+    → HaveCome first most new (record { most = so_far.most; accepted = accepted; ends = so_far.ends; ended = so_far.ended; failed = so_far.failed }) back (out + 1)
 one-accepted first most now new so_far accepted back out going small up bound lines faults ended closed s =
     let before : so_far.accepted ≡ min (back + out) (2 ^ 64 - 1) = s.accepted in
     record {
@@ -125,13 +125,13 @@ enough (Some most) lines accepted ended counted few (inl full) =
     inl (omega (arith, counted, few, above))
 enough (Some most) lines accepted ended counted few (inr is) = inr is
 
-over-ended : (so_far : Progress) (now : Told) → (so_far.ended ≡ true → now.ended ≡ true) → (is_full so_far.most so_far.accepted ≡ true) ⊎ (so_far.ended ≡ true)
+over-ended : (so_far : Progress) (now : DoorSeen) → (so_far.ended ≡ true → now.ended ≡ true) → (is_full so_far.most so_far.accepted ≡ true) ⊎ (so_far.ended ≡ true)
     → (is_full so_far.most so_far.accepted ≡ true) ⊎ (now.ended ≡ true)
-over-ended so_far now told (inl full) = inl full
-over-ended so_far now told (inr ended) = inr (told ended)
+over-ended so_far now same (inl full) = inl full
+over-ended so_far now same (inr ended) = inr (same ended)
 
 -- where all lines were handed back and none is to be accepted any more
-attended : (first now : Told) (most : Option ℕ) (so_far : Progress) → StandsWith first most now so_far 0 → is_over so_far ≡ true
+attended : (first now : DoorSeen) (most : Option ℕ) (so_far : Progress) → HaveComeWith first most now so_far 0 → is_over so_far ≡ true
     → WasAttended most first now so_far.ends.items so_far.accepted so_far.failed
 attended first now most so_far (back, s) over =
     let none : back + 0 ≡ back = omega arith in
@@ -150,7 +150,7 @@ attended first now most so_far (back, s) over =
           (over-ended so_far now s.ended (over_by (is_full so_far.most so_far.accepted) so_far.ended so_far.failed over ok)));
     }
 
-pub attended-as : (first now : Told) (most conns : Option ℕ) (so_far : Progress) → most ≡ conns → StandsWith first most now so_far 0 → is_over so_far ≡ true
+pub attended-as : (first now : DoorSeen) (most conns : Option ℕ) (so_far : Progress) → most ≡ conns → HaveComeWith first most now so_far 0 → is_over so_far ≡ true
     → WasAttended conns first now so_far.ends.items so_far.accepted so_far.failed
 attended-as first now most conns so_far same stands over =
     subst (λ (o : Option ℕ). WasAttended o first now so_far.ends.items so_far.accepted so_far.failed) same (attended first now most so_far stands over)

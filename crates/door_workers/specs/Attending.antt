@@ -5,7 +5,7 @@ use Rattle.std.specs.Option.{option_map}
 use Rattle.iq_outside.specs.Outside.{Rose, count_up}
 use Rattle.door_workers.specs.declared.progress.Progress.{Progress}
 use Rattle.conn_server.specs.declared.ends.LineEnd.{LineEnd}
-use Rattle.door_workers.specs.Told.{Told}
+use Rattle.door_workers.specs.DoorSeen.{DoorSeen}
 
 -- The number that is reached by counting up so many times: it stands still at the end of its type.
 abbrev pub count_up_by : ℕ → ℕ → ℕ
@@ -17,8 +17,8 @@ abbrev pub GivesBack : ℕ → Option ℕ → Option ℕ → Type 0
 GivesBack count before after = (after ≡ None) ⊎ (after ≡ option_map (λ closed. closed + count) before)
 
 -- What a door tells of itself.
-abbrev pub told : {D L : Type 0} → (D → Option (List ℕ)) → (D → ℕ) → (D → ℕ) → (D → Bool) → (D → Option (List L)) → D → Told
-told bound lines faults ended closed door = record {
+abbrev pub seen_at : {D L : Type 0} → (D → Option (List ℕ)) → (D → ℕ) → (D → ℕ) → (D → Bool) → (D → Option (List L)) → D → DoorSeen
+seen_at bound lines faults ended closed door = record {
   bound = bound door;
   lines = lines door;
   faults = faults door;
@@ -38,7 +38,7 @@ IsEnough None lines ended = ended ≡ true
 
 -- Workers who may accept so many lines, or any number, attended a door that told this before and tells this after. They accepted
 -- some lines and handed each back, and counted them. It is open where it was.
-pub record WasAttended (most : Option ℕ) (before after : Told) (ends : List LineEnd) (served : ℕ) (failed : Bool) : Type 0 where
+pub record WasAttended (most : Option ℕ) (before after : DoorSeen) (ends : List LineEnd) (served : ℕ) (failed : Bool) : Type 0 where
   pub lines : ℕ
   pub few : IfSome most (λ most. lines ≤ most)
   pub have_ends : HaveEnds most lines ends
@@ -49,8 +49,8 @@ pub record WasAttended (most : Option ℕ) (before after : Told) (ends : List Li
   pub all : failed ≡ false → IsEnough most lines after.ended
 
 -- Nothing is done yet.
-abbrev pub begun : Option ℕ → Vec LineEnd Global → Progress
-begun most ends = record { most = most; accepted = 0; ends = ends; ended = false; failed = false }
+abbrev pub at_start : Option ℕ → Vec LineEnd Global → Progress
+at_start most ends = record { most = most; accepted = 0; ends = ends; ended = false; failed = false }
 
 -- As many lines were accepted as may be.
 abbrev pub is_full : Option ℕ → ℕ → Bool
@@ -68,7 +68,7 @@ one_more None ends end = ends
 
 -- Workers who may accept so many lines, or any number, have come so far at a door that told this first and tells this now. They
 -- handed so many lines back, and are serving so many.
-pub record Stands (first : Told) (most : Option ℕ) (now : Told) (so_far : Progress) (back out : ℕ) : Type 0 where
+pub record HaveCome (first : DoorSeen) (most : Option ℕ) (now : DoorSeen) (so_far : Progress) (back out : ℕ) : Type 0 where
   pub most_is : so_far.most ≡ most
   pub few : IfSome most (λ most. back + out ≤ most)
   pub room : IfSome most (λ most. most ≤ vec_capacity so_far.ends)
@@ -82,5 +82,5 @@ pub record Stands (first : Told) (most : Option ℕ) (now : Told) (so_far : Prog
   pub given_back : GivesBack back first.closed now.closed
 
 -- They have handed some lines back, and are serving so many.
-abbrev pub StandsWith : Told → Option ℕ → Told → Progress → ℕ → Type 0
-StandsWith first most now so_far out = (back : ℕ) × Stands first most now so_far back out
+abbrev pub HaveComeWith : DoorSeen → Option ℕ → DoorSeen → Progress → ℕ → Type 0
+HaveComeWith first most now so_far out = (back : ℕ) × HaveCome first most now so_far back out

@@ -2,7 +2,7 @@
 use Rattle.std.specs.Prelude.{◌≡◌, ◌⊎◌, ℕ, List, [], ◌∷◌, ◌++◌, Option, Some, None}
 use Rattle.std.specs.Option.{option_map, ForSome}
 use Rattle.iq_outside.specs.Outside.{LineRecord}
-use Rattle.session_client.specs.Desks.{Call}
+use Rattle.session_client.specs.Desks.{Exchange}
 use Rattle.plain_ops.specs.Desks.{PlainCall}
 use Rattle.conn_server.specs.Service.{Served, NoneLeft}
 use Rattle.conn_server.specs.declared.ends.LineEnd.{LineEnd}
@@ -11,7 +11,7 @@ use Rattle.conn_server.specs.declared.ends.LineEnd.{LineEnd}
 -- what it took are what a connection gives and takes that ends so. Where its input ended it has no byte left.
 pub record IsEnded (line : LineRecord) (end : LineEnd) : Type 0 where
   pub served : ForSome line.reads.given (λ given. ForSome line.writes.taken
-      (λ taken. (calls : List Call) × (plains : List PlainCall) × Served given taken calls plains end))
+      (λ taken. (calls : List Exchange) × (plains : List PlainCall) × Served given taken calls plains end))
   pub none_left : NoneLeft end line.reads.left
 
 -- As many lines as ends, and each was served to its end.

@@ -1,4 +1,4 @@
 pub use Rattle.iq_outside.specs.Outside
-pub mod Told
+pub mod DoorSeen
 pub mod Attending
 pub mod Ends

@@ -1,7 +1,7 @@
 ghost use Rattle.std.specs.Prelude.{◌≡◌, ℕ, ◌+◌, ◌<◌, ◌≤◌, ◌||◌, Option, true, is_none, IfSome, IfNone, IfOk, OnOk, OnErr, length, vec_capacity};
 ghost use Rattle.iq_outside.specs.Outside.{Rose, IsFresh, HandedBack, lines_with, count_up};
-ghost use Rattle.door_workers.specs.Attending.{Stands, is_over, one_more, told};
-ghost use Rattle.door_workers.specs.Told.{Told};
+ghost use Rattle.door_workers.specs.Attending.{HaveCome, is_over, one_more, seen_at};
+ghost use Rattle.door_workers.specs.DoorSeen.{DoorSeen};
 
 use crate::progress::Progress;
 use conn_server::LineEnd;
@@ -49,15 +49,15 @@ impl<'a, D: Door> Attending<'a, D> {
     pub fn accept(&mut self) -> Option<D::Line>
         ensures same_door { self.new.lent.door.ghost_name ≡ self.old.lent.door.ghost_name }
         ensures line { IfSome result (λ line.
-            (first : Told) (most : Option ℕ) (back out : ℕ) →
-            Stands first most (told D.bound D.lines D.faults D.ended D.closed self.old.lent.door.now)
+            (first : DoorSeen) (most : Option ℕ) (back out : ℕ) →
+            HaveCome first most (seen_at D.bound D.lines D.faults D.ended D.closed self.old.lent.door.now)
             self.old.so_far back out →
-            Stands first most (told D.bound D.lines D.faults D.ended D.closed self.new.lent.door.now)
+            HaveCome first most (seen_at D.bound D.lines D.faults D.ended D.closed self.new.lent.door.now)
             self.new.so_far back (out + 1)) }
-        ensures none { IfNone result ((first : Told) (most : Option ℕ) (back out : ℕ) →
-            Stands first most (told D.bound D.lines D.faults D.ended D.closed self.old.lent.door.now)
+        ensures none { IfNone result ((first : DoorSeen) (most : Option ℕ) (back out : ℕ) →
+            HaveCome first most (seen_at D.bound D.lines D.faults D.ended D.closed self.old.lent.door.now)
             self.old.so_far back out →
-            Stands first most (told D.bound D.lines D.faults D.ended D.closed self.new.lent.door.now)
+            HaveCome first most (seen_at D.bound D.lines D.faults D.ended D.closed self.new.lent.door.now)
             self.new.so_far back out) }
         ensures over { IfNone result (is_over self.new.so_far ≡ true) }
         ensures counted { IfSome result (λ line.
@@ -98,10 +98,10 @@ impl<'a, D: Door> Attending<'a, D> {
             length self.old.so_far.ends.items < vec_capacity self.old.so_far.ends) }
         requires finished { D.Line.finished line ≡ true }
         ensures same_door { self.new.lent.door.ghost_name ≡ self.old.lent.door.ghost_name }
-        ensures stands { (first : Told) (most : Option ℕ) (back out : ℕ) →
-            Stands first most (told D.bound D.lines D.faults D.ended D.closed self.old.lent.door.now)
+        ensures stands { (first : DoorSeen) (most : Option ℕ) (back out : ℕ) →
+            HaveCome first most (seen_at D.bound D.lines D.faults D.ended D.closed self.old.lent.door.now)
             self.old.so_far back (out + 1) →
-            Stands first most (told D.bound D.lines D.faults D.ended D.closed self.new.lent.door.now)
+            HaveCome first most (seen_at D.bound D.lines D.faults D.ended D.closed self.new.lent.door.now)
             self.new.so_far (back + 1) out }
         ensures handed_back { HandedBack (D.closed self.old.lent.door.now)
             (D.closed self.new.lent.door.now)

@@ -1,6 +1,6 @@
 ghost use Rattle.std.specs.Prelude.{◌≡◌, ◌+◌, ◌≤◌, true, IfSome, IfNone};
 ghost use Rattle.iq_outside.specs.Outside.{IsFresh};
-ghost use Rattle.door_workers.specs.Attending.{StandsWith, told};
+ghost use Rattle.door_workers.specs.Attending.{HaveComeWith, seen_at};
 ghost use Rattle.door_workers.specs.Ends.{IsEnded, AreServed};
 
 use crate::attending::Attending;
@@ -19,7 +19,7 @@ pub(crate) struct Kept<'a, D: Door, N: DoorName> {
 
 impl<'a, D: Door, N: DoorName> Model for Kept<'a, D, N> {
     ghost use Rattle.std.specs.Prelude.{◌≡◌};
-    ghost use Rattle.door_workers.specs.Attending.{StandsWith, told};
+    ghost use Rattle.door_workers.specs.Attending.{HaveComeWith, seen_at};
     ghost use Rattle.door_workers.specs.Ends.{AreServed};
 
     ghost Value = { Unit {0} };
@@ -27,7 +27,7 @@ impl<'a, D: Door, N: DoorName> Model for Kept<'a, D, N> {
     ghost view = { λ kept. tt };
 
     ghost invariant = { λ kept. (kept.at.lent.door.ghost_name ≡ N.door)
-        × StandsWith N.first N.most (told D.bound D.lines D.faults D.ended D.closed kept.at.lent.door.now)
+        × HaveComeWith N.first N.most (seen_at D.bound D.lines D.faults D.ended D.closed kept.at.lent.door.now)
         kept.at.so_far kept.out.total
         × (N.fresh → D.fresh kept.at.lent.door.now)
         × (N.fresh → AreServed N.most kept.at.so_far.ends.items N.closed
@@ -72,8 +72,8 @@ impl<'a, D: Door, N: DoorName> Kept<'a, D, N> {
         requires all { all.parts ≡ N.parts }
         requires none { all.amount ≡ 0 }
         ensures door { result.lent.door.ghost_name ≡ N.door }
-        ensures stands { StandsWith N.first N.most
-            (told D.bound D.lines D.faults D.ended D.closed result.lent.door.now) result.so_far 0 }
+        ensures stands { HaveComeWith N.first N.most
+            (seen_at D.bound D.lines D.faults D.ended D.closed result.lent.door.now) result.so_far 0 }
         ensures stays_fresh { N.fresh → D.fresh result.lent.door.now }
         ensures handed_back { N.fresh → AreServed N.most result.so_far.ends.items N.closed
             (D.closed result.lent.door.now) }

@@ -1,7 +1,7 @@
 ghost use Rattle.std.specs.Prelude.{ℕ, List, Option};
 ghost use Rattle.std.specs.Borrow.{GName};
 ghost use Rattle.iq_outside.specs.Outside.{LineRecord};
-ghost use Rattle.door_workers.specs.Told.{Told};
+ghost use Rattle.door_workers.specs.DoorSeen.{DoorSeen};
 
 use std::marker::Brand;
 use std::sync::ledger::Ledger;
@@ -14,7 +14,7 @@ use std::sync::ledger::Ledger;
 pub(crate) trait DoorName: Ledger {
     ghost door: { GName };
 
-    ghost first: { Told };
+    ghost first: { DoorSeen };
 
     ghost closed: { Option (List LineRecord) };
 

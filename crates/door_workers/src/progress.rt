@@ -1,5 +1,5 @@
 ghost use Rattle.std.specs.Prelude.{◌≡◌, ◌<◌, ◌^◌, IfSome};
-ghost use Rattle.door_workers.specs.Attending.{begun, is_over};
+ghost use Rattle.door_workers.specs.Attending.{at_start, is_over};
 
 use conn_server::LineEnd;
 
@@ -22,7 +22,7 @@ pub(crate) struct Progress {
 impl Progress {
     /// Nothing is done yet. No memory is taken.
     pub fn new(most: Option<u32>, ends: Vec<LineEnd>) -> Progress
-        ensures { result ≡ begun most ends }
+        ensures { result ≡ at_start most ends }
     {
         Progress {
             most,

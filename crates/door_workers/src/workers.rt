@@ -1,8 +1,8 @@
 ghost use Rattle.std.specs.Prelude.{◌≡◌, ℕ, ◌≤◌, true, false, List, [], Option, IfSome, length, vec_capacity};
 ghost use Rattle.std.specs.Thread.{IsSync};
 ghost use Rattle.iq_outside.specs.Outside.{Rose, LineRecord};
-ghost use Rattle.door_workers.specs.Attending.{StandsWith, WasAttended, is_over, told};
-ghost use Rattle.door_workers.specs.Told.{Told};
+ghost use Rattle.door_workers.specs.Attending.{HaveComeWith, WasAttended, is_over, seen_at};
+ghost use Rattle.door_workers.specs.DoorSeen.{DoorSeen};
 ghost use Rattle.door_workers.specs.Ends.{AreServed};
 
 use crate::attending::{Attending, Lent};
@@ -56,7 +56,7 @@ pub fn serve_all<D: Door, K: Desk + Send, R: Threads + Wait + Sync>(
     requires some { 1 ≤ length desks.old }
     requires none { ends.items ≡ [] }
     requires room { IfSome conns (λ most. most ≤ vec_capacity ends) }
-    ensures attended { let tells = told D.bound D.lines D.faults D.ended D.closed in
+    ensures attended { let tells = seen_at D.bound D.lines D.faults D.ended D.closed in
         WasAttended conns (tells door.old) (tells door.new)
         result.ends.items result.served result.failed }
     ensures failed { result.failed ≡ true → Rose (D.faults door.old) (D.faults door.new) }
@@ -93,14 +93,14 @@ fn attend<'a, D: Door, K: Desk + Send, N: DoorName + Send + Sync, R: Threads + W
     requires ledger { (ledger.name ≡ N.name) × (ledger.parts ≡ N.parts) }
     requires one_each { ledger.parts ≡ length desks.old }
     requires door { lent.door.ghost_name ≡ N.door }
-    requires first { StandsWith N.first N.most
-        (told D.bound D.lines D.faults D.ended D.closed lent.door.now) so_far.old 0 }
+    requires first { HaveComeWith N.first N.most
+        (seen_at D.bound D.lines D.faults D.ended D.closed lent.door.now) so_far.old 0 }
     requires fresh { N.fresh → D.fresh lent.door.now }
     requires handed_back { N.fresh →
         AreServed N.most so_far.old.ends.items N.closed (D.closed lent.door.now) }
     ensures same_door { result.door.ghost_name ≡ lent.entry.door.ghost_name }
-    ensures stands { StandsWith N.first N.most
-        (told D.bound D.lines D.faults D.ended D.closed result.door.now) so_far.new 0 }
+    ensures stands { HaveComeWith N.first N.most
+        (seen_at D.bound D.lines D.faults D.ended D.closed result.door.now) so_far.new 0 }
     ensures over { is_over so_far.new ≡ true }
     ensures stays_fresh { N.fresh → D.fresh result.door.now }
     ensures handed_back { N.fresh →
@@ -214,13 +214,13 @@ fn attend_alone<D: Door, K: Desk, R: Wait>(
     desk: &mut K,
     plain: &PlainBox,
 )
-    requires stands { (first : Told) × (most : Option ℕ) × StandsWith first most
-        (told D.bound D.lines D.faults D.ended D.closed at.old.lent.door.now) at.old.so_far 0 }
+    requires stands { (first : DoorSeen) × (most : Option ℕ) × HaveComeWith first most
+        (seen_at D.bound D.lines D.faults D.ended D.closed at.old.lent.door.now) at.old.so_far 0 }
     ensures same_door { at.new.lent.door.ghost_name ≡ at.old.lent.door.ghost_name }
-    ensures stands { (first : Told) (most : Option ℕ) →
-        StandsWith first most (told D.bound D.lines D.faults D.ended D.closed at.old.lent.door.now)
+    ensures stands { (first : DoorSeen) (most : Option ℕ) →
+        HaveComeWith first most (seen_at D.bound D.lines D.faults D.ended D.closed at.old.lent.door.now)
         at.old.so_far 0 →
-        StandsWith first most (told D.bound D.lines D.faults D.ended D.closed at.new.lent.door.now)
+        HaveComeWith first most (seen_at D.bound D.lines D.faults D.ended D.closed at.new.lent.door.now)
         at.new.so_far 0 }
     ensures over { is_over at.new.so_far ≡ true }
     ensures stays_fresh { D.fresh at.old.lent.door.now → D.fresh at.new.lent.door.now }

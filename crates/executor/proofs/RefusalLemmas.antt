@@ -17,32 +17,32 @@ use Rattle.key_shard.specs.declared.replies.ShardFault.TheVariants as causes
 use Rattle.key_shard.specs.declared.steps.Step.{Step}
 use Rattle.session_client.proofs.QuarantineLemmas.{raise_belongs}
 use Rattle.session_client.specs.Belongs.{IsRaiseOf}
-use Rattle.session_client.specs.declared.replies.Reply.TheVariants as reply
+use Rattle.session_client.specs.declared.replies.Reply.TheVariants as Reply
 use Rattle.executor.specs.OnShard.{is_spent, TellsQuarantine}
 
-unspent : (home spent : Bool) (next other : ℕ) (told : QAnswer) → home ≡ true
-    → Refuses (cond home (cond spent (Some (causes.Spent next)) None) (Some (causes.Stranger other))) (Ok told) → IsFalse spent
-unspent true true next other told at refuses =
+unspent : (home spent : Bool) (next other : ℕ) (answer : QAnswer) → home ≡ true
+    → Refuses (cond home (cond spent (Some (causes.Spent next)) None) (Some (causes.Stranger other))) (Ok answer) → IsFalse spent
+unspent true true next other answer at refuses =
     absurd (subst (λ r. MatchResult r (λ _. Unit {0}) (λ _. ⊥)) refuses tt)
-unspent true false next other told at refuses = refl
-unspent false spent next other told at refuses = absurd (false≢true at)
+unspent true false next other answer at refuses = refl
+unspent false spent next other answer at refuses = absurd (false≢true at)
 
 -- an answer to a quarantine of a key of the shard itself is told, and a token was left
-pub tells_quarantine : (old new : ShardView) (key : QKey) (step : Step) (told : QAnswer) → IsAtHome old.terms key
-    → Refuses (refusal old key step) (Ok told) → new ≡ stepped (rolled old) step → ShowsQuarantine old.terms (past_of old) step told
-    → TellsQuarantine old step new (reply.Quar told)
-tells_quarantine old new key step told home refuses is shows = (
+pub tells_quarantine : (old new : ShardView) (key : QKey) (step : Step) (answer : QAnswer) → IsAtHome old.terms key
+    → Refuses (refusal old key step) (Ok answer) → new ≡ stepped (rolled old) step → ShowsQuarantine old.terms (past_of old) step answer
+    → TellsQuarantine old step new (Reply.Quar answer)
+tells_quarantine old new key step answer home refuses is shows = (
   is,
   shows,
   unspent (shard_of key old.terms.count == old.terms.no) (is_spent old step) (next_token old.terms (past_of old))
-      (shard_of key old.terms.count) told (eq-eqb _ _ home) refuses,
+      (shard_of key old.terms.count) answer (eq-eqb _ _ home) refuses,
 )
 
 -- what is told of a raise belongs to the request for it, whether or not the grant is out
-pub raise_told : (old : ShardView) (grant : Permit) (step : Step) (told : Raising)
-    → (is_out old grant ≡ true → ShowsRaise (past_of old) grant step told) → (is_out old grant ≡ false → told ≡ raisings.Gone) → IsRaiseOf grant told
-raise_told old grant step told shows unknown = by (is_out old grant) refl
+pub raise_answered : (old : ShardView) (grant : Permit) (step : Step) (answer : Raising)
+    → (is_out old grant ≡ true → ShowsRaise (past_of old) grant step answer) → (is_out old grant ≡ false → answer ≡ raisings.Gone) → IsRaiseOf grant answer
+raise_answered old grant step answer shows unknown = by (is_out old grant) refl
   where
-    by : (b : Bool) → is_out old grant ≡ b → IsRaiseOf grant told
-    by true e = raise_belongs (past_of old) grant step told (shows e)
+    by : (b : Bool) → is_out old grant ≡ b → IsRaiseOf grant answer
+    by true e = raise_belongs (past_of old) grant step answer (shows e)
     by false e = subst (IsRaiseOf grant) (sym (unknown e)) tt

@@ -6,7 +6,7 @@ ghost use Rattle.key_shard.specs.Replies.{ShowsQuarantine};
 ghost use Rattle.key_shard.specs.Shards.{past_of, rolled, stepped, refusal, Refuses};
 ghost use Rattle.session_client.specs.Belongs.{Belongs, IsShardFault};
 ghost use Rattle.session_client.specs.Desks.{IsProper};
-ghost use Rattle.session_client.specs.declared.replies.Reply.TheVariants as reply;
+ghost use Rattle.session_client.specs.declared.replies.Reply.TheVariants as Reply;
 ghost use Rattle.session_client.specs.declared.replies.Wanted.TheVariants as wanted;
 ghost use Rattle.write_ops.specs.Releases.{qa_step, read_step, delta_step, dar_step, abort_step, sar_step, apply_step};
 ghost use Rattle.executor.specs.OnShard.{IsFor, fault_of, MakesOnShard, TellsGot, TellsSet, TellsQuarantine, TellsRelease, TellsPut, TellsRaise, TellsRenewal};
@@ -40,7 +40,7 @@ pub fn on_shard(shard: &mut Shard, who: Sid, request: Wanted, now: u64) -> Reply
         Wanted::QaRead { key } => quarantine_to_refresh(shard, who, key, now),
         Wanted::Delta { key, by } => quarantine_to_shift(shard, who, key, by, now),
         Wanted::Dar { grant } => Reply::Rel {
-            told: dar(shard, grant),
+            answer: dar(shard, grant),
         },
         Wanted::Sar {
             grant,
@@ -48,10 +48,10 @@ pub fn on_shard(shard: &mut Shard, who: Sid, request: Wanted, now: u64) -> Reply
             stamp,
         } => put_or_drop(shard, grant, value, stamp),
         Wanted::Apply { grant, stamp } => Reply::Rel {
-            told: commit_delta(shard, grant, stamp),
+            answer: commit_delta(shard, grant, stamp),
         },
         Wanted::Abort { grant } => Reply::Rel {
-            told: abort(shard, grant),
+            answer: abort(shard, grant),
         },
         Wanted::Raise { grant } => raise(shard, grant),
         Wanted::Renew { grant } => renew(shard, grant, now),
@@ -82,7 +82,7 @@ fn set(shard: &mut Shard, key: QKey, token: u64, value: Value, stamp: u64, now: 
     ensures belongs { (who : Sid) → Belongs who (wanted.Set key token value stamp) result }
 {
     match shard.set(key, token, value, stamp, now) {
-        Ok(told) => Reply::Set { told },
+        Ok(answer) => Reply::Set { answer },
         Err(_) => Reply::Fault {
             fault: Fault::Memory,
         },
@@ -95,7 +95,7 @@ fn quarantine(shard: &mut Shard, who: Sid, key: QKey, now: u64) -> Reply
     ensures belongs { Belongs who (wanted.QaReg key) result }
 {
     match qa_reg(shard, key, who, now) {
-        Ok(told) => Reply::Quar { told },
+        Ok(answer) => Reply::Quar { answer },
         Err(fault) => refused(fault),
     }
 }
@@ -106,7 +106,7 @@ fn quarantine_to_refresh(shard: &mut Shard, who: Sid, key: QKey, now: u64) -> Re
     ensures belongs { Belongs who (wanted.QaRead key) result }
 {
     match qa_read(shard, key, who, now) {
-        Ok(told) => Reply::Quar { told },
+        Ok(answer) => Reply::Quar { answer },
         Err(fault) => refused(fault),
     }
 }
@@ -118,7 +118,7 @@ fn quarantine_to_shift(shard: &mut Shard, who: Sid, key: QKey, by: i32, now: u64
     ensures belongs { Belongs who (wanted.Delta key by) result }
 {
     match delta_on(shard, who, key, by, now) {
-        Ok(told) => Reply::Quar { told },
+        Ok(answer) => Reply::Quar { answer },
         Err(fault) => refused(fault),
     }
 }
@@ -140,7 +140,7 @@ fn delta_on(
     ensures err { OnErr result (shard.new ≡ shard.old) }
 {
     match iq_delta(shard, key, who, by, now) {
-        Ok(told) => Ok(told),
+        Ok(answer) => Ok(answer),
         Err(DeltaFault::Shard { fault }) => Err(fault),
         Err(DeltaFault::NotCount) => unreachable!(),
     }
@@ -155,7 +155,7 @@ fn put_or_drop(shard: &mut Shard, grant: Grant, value: Option<Value>, stamp: u64
     match value {
         Some(value) => put(shard, grant, value, stamp),
         None => Reply::Rel {
-            told: dar(shard, grant),
+            answer: dar(shard, grant),
         },
     }
 }
@@ -167,7 +167,7 @@ fn put(shard: &mut Shard, grant: Grant, value: Value, stamp: u64) -> Reply
     ensures belongs { (who : Sid) → Belongs who (wanted.Sar grant (Some value) stamp) result }
 {
     match sar(shard, grant, Some(value), stamp) {
-        Ok(told) => Reply::Rel { told },
+        Ok(answer) => Reply::Rel { answer },
         Err(Back { grant, value: _ }) => Reply::SarBack { grant },
     }
 }
@@ -179,7 +179,7 @@ fn raise(shard: &mut Shard, grant: Grant) -> Reply
     ensures belongs { (who : Sid) → Belongs who (wanted.Raise grant) result }
 {
     match shard.raise(grant) {
-        Ok(told) => Reply::Raise { told },
+        Ok(answer) => Reply::Raise { answer },
         Err(grant) => Reply::RaiseBack { grant },
     }
 }
@@ -190,18 +190,21 @@ fn renew(shard: &mut Shard, grant: Grant, now: u64) -> Reply
     ensures belongs { (who : Sid) → Belongs who (wanted.Renew grant) result }
 {
     match shard.renew(&grant, now) {
-        Ok(told) => Reply::Renew {
+        Ok(answer) => Reply::Renew {
             grant,
-            told: Some(told),
+            answer: Some(answer),
         },
-        Err(_) => Reply::Renew { grant, told: None },
+        Err(_) => Reply::Renew {
+            grant,
+            answer: None,
+        },
     }
 }
 
 /// What a session is told where its request on a key of this shard was not made.
 fn refused(fault: ShardFault) -> Reply
     requires { (other : ℕ) → fault ≢ ShardFault.Stranger other }
-    ensures { result ≡ reply.Fault (fault_of fault) }
+    ensures { result ≡ Reply.Fault (fault_of fault) }
 {
     let fault = match fault {
         ShardFault::Spent { next: _ } => Fault::Spent,

@@ -5,7 +5,7 @@ use Rattle.std.proofs.Math.Nat.{suc-mod, mod-lt, mod_self, mod-eq_of_lt, zero-mo
 use Rattle.std.proofs.lemmas.Bool.{cond_above, cond_below}
 use Rattle.std.proofs.lemmas.List.Sums.{sum_by-cons}
 use Rattle.expiry_sweeper.specs.declared.replies.SweepReply.{SweepReply}
-use Rattle.expiry_sweeper.specs.declared.replies.SweepReply.TheVariants as reply
+use Rattle.expiry_sweeper.specs.declared.replies.SweepReply.TheVariants as SweepReply
 use Rattle.expiry_sweeper.specs.declared.replies.SweepWanted.{SweepWanted}
 use Rattle.expiry_sweeper.specs.declared.replies.SweepWanted.TheVariants as wanted
 use Rattle.expiry_sweeper.specs.declared.sweepers.Stage.{Stage}
@@ -16,18 +16,18 @@ use Rattle.expiry_sweeper.specs.EndsFirst.{EndedFirst, EndsBeforeDrops}
 use Rattle.expiry_sweeper.specs.Follows.{wanted_at, wanted_of, DropsFound, Follows}
 
 -- a reply other than that none was found leaves the shard
-pub shard-kept : (shards : ℕ) (told : SweepReply) (before : List SweepReply)
-    → is_none_found told ≡ false → shard_at shards (told ∷ before) ≡ shard_at shards before
-shard-kept shards told before other =
-    let counted = sum_by-cons (λ reply. cond (is_none_found reply) 1 0) told before in
+pub shard-kept : (shards : ℕ) (reply : SweepReply) (before : List SweepReply)
+    → is_none_found reply ≡ false → shard_at shards (reply ∷ before) ≡ shard_at shards before
+shard-kept shards its_reply before other =
+    let counted = sum_by-cons (λ reply. cond (is_none_found reply) 1 0) its_reply before in
     let one : Bool → ℕ = λ b. cond b 1 0 in
-    let none : one (is_none_found told) ≡ 0 = ap one other in
-    let same : count_by is_none_found (told ∷ before) ≡ count_by is_none_found before = omega (arith, counted, none) in
+    let none : one (is_none_found its_reply) ≡ 0 = ap one other in
+    let same : count_by is_none_found (its_reply ∷ before) ≡ count_by is_none_found before = omega (arith, counted, none) in
     ap (λ n. n % shards) same
 
 -- where none was found, the next shard is swept, and shard 0 after the last
 pub shard-none_found : (shards place : ℕ) (before : List SweepReply)
-    → 0 < shards → shard_at shards (reply.NoneFound place ∷ before) ≡ cond (ltb (shard_at shards before + 1) shards) (shard_at shards before + 1) 0
+    → 0 < shards → shard_at shards (SweepReply.NoneFound place ∷ before) ≡ cond (ltb (shard_at shards before + 1) shards) (shard_at shards before + 1) 0
 shard-none_found shards place before some =
     ap (λ n. n % shards) one ∙ suc-mod n shards ∙ by (eq-or-lt_of_le next)
   where
@@ -37,9 +37,9 @@ shard-none_found shards place before some =
     at : ℕ
     at = n % shards
 
-    one : count_by is_none_found (reply.NoneFound place ∷ before) ≡ suc n
+    one : count_by is_none_found (SweepReply.NoneFound place ∷ before) ≡ suc n
     one =
-        let counted = sum_by-cons (λ reply. cond (is_none_found reply) 1 0) (reply.NoneFound place) before in
+        let counted = sum_by-cons (λ reply. cond (is_none_found reply) 1 0) (SweepReply.NoneFound place) before in
         omega (arith, counted)
 
     next : suc at ≤ shards
@@ -55,50 +55,50 @@ shard-none_found shards place before some =
         mod-eq_of_lt more ∙ same ∙ cond_below (at + 1) shards (at + 1) 0 below
 
 -- a scan that is wanted is of the shard that is being swept
-pub scan-at : (shards : ℕ) (told : List SweepReply) (shard : ℕ) → sweep_wants shards told ≡ wanted.Scan shard → shard_at shards told ≡ shard
+pub scan-at : (shards : ℕ) (replies : List SweepReply) (shard : ℕ) → sweep_wants shards replies ≡ wanted.Scan shard → shard_at shards replies ≡ shard
 scan-at shards [] shard e = zero-mod shards ∙ cc
-scan-at shards (reply.Found place due ∷ before) shard e = absurd cc
-scan-at shards (reply.NoneFound place ∷ before) shard e = cc
-scan-at shards (reply.Dropped rel ∷ before) shard e = shard-kept shards (reply.Dropped rel) before refl ∙ cc
-scan-at shards (reply.Ended closed ∷ before) shard e = shard-kept shards (reply.Ended closed) before refl ∙ by before e
+scan-at shards (SweepReply.Found place due ∷ before) shard e = absurd cc
+scan-at shards (SweepReply.NoneFound place ∷ before) shard e = cc
+scan-at shards (SweepReply.Dropped rel ∷ before) shard e = shard-kept shards (SweepReply.Dropped rel) before refl ∙ cc
+scan-at shards (SweepReply.Ended closed ∷ before) shard e = shard-kept shards (SweepReply.Ended closed) before refl ∙ by before e
   where
     by : (before : List SweepReply) → drop_found shards before ≡ wanted.Scan shard → shard_at shards before ≡ shard
     by [] e = cc
-    by (reply.Found place due ∷ rest) e = absurd cc
-    by (reply.NoneFound place ∷ rest) e = cc
-    by (reply.Dropped rel ∷ rest) e = cc
-    by (reply.Ended closed ∷ rest) e = cc
+    by (SweepReply.Found place due ∷ rest) e = absurd cc
+    by (SweepReply.NoneFound place ∷ rest) e = cc
+    by (SweepReply.Dropped rel ∷ rest) e = cc
+    by (SweepReply.Ended closed ∷ rest) e = cc
 
 -- it is one of the shards
-pub wants-within : (shards : ℕ) (told : List SweepReply) → 0 < shards → IsWithin shards (sweep_wants shards told)
-wants-within shards told some = by (sweep_wants shards told) refl
+pub wants-within : (shards : ℕ) (replies : List SweepReply) → 0 < shards → IsWithin shards (sweep_wants shards replies)
+wants-within shards replies some = by (sweep_wants shards replies) refl
   where
-    by : (request : SweepWanted) → sweep_wants shards told ≡ request → IsWithin shards request
+    by : (request : SweepWanted) → sweep_wants shards replies ≡ request → IsWithin shards request
     by (wanted.Scan shard) e =
-        subst (λ n. n < shards) (scan-at shards told shard e) (mod-lt (count_by is_none_found told) some)
+        subst (λ n. n < shards) (scan-at shards replies shard e) (mod-lt (count_by is_none_found replies) some)
     by (wanted.End sid) e = tt
     by (wanted.Drop key token) e = tt
 
 -- what is found belongs to a scan of its shard
-found-scanned : (place : ℕ) (due : _) (request : SweepWanted) → BelongsTo request (reply.Found place due) → request ≡ wanted.Scan place
+found-scanned : (place : ℕ) (due : _) (request : SweepWanted) → BelongsTo request (SweepReply.Found place due) → request ≡ wanted.Scan place
 found-scanned place due (wanted.Scan shard) h = ap wanted.Scan (sym h)
 found-scanned place due (wanted.End sid) h = absurd h
 found-scanned place due (wanted.Drop key token) h = absurd h
 
 pub ends_before_drops : EndsBeforeDrops
 ends_before_drops shards [] key token are e = absurd cc
-ends_before_drops shards (reply.Found place due ∷ told) key token are e = absurd cc
-ends_before_drops shards (reply.NoneFound place ∷ told) key token are e = absurd cc
-ends_before_drops shards (reply.Dropped rel ∷ told) key token are e = absurd cc
-ends_before_drops shards (reply.Ended closed ∷ told) key token are e = by told are e
+ends_before_drops shards (SweepReply.Found place due ∷ replies) key token are e = absurd cc
+ends_before_drops shards (SweepReply.NoneFound place ∷ replies) key token are e = absurd cc
+ends_before_drops shards (SweepReply.Dropped rel ∷ replies) key token are e = absurd cc
+ends_before_drops shards (SweepReply.Ended closed ∷ replies) key token are e = by replies are e
   where
-    by : (told : List SweepReply) → AreAnswers shards (reply.Ended closed ∷ told)
-        → drop_found shards told ≡ wanted.Drop key token → EndedFirst shards (reply.Ended closed ∷ told) key token
+    by : (replies : List SweepReply) → AreAnswers shards (SweepReply.Ended closed ∷ replies)
+        → drop_found shards replies ≡ wanted.Drop key token → EndedFirst shards (SweepReply.Ended closed ∷ replies) key token
     by [] are e = absurd cc
-    by (reply.NoneFound place ∷ before) are e = absurd cc
-    by (reply.Dropped rel ∷ before) are e = absurd cc
-    by (reply.Ended had ∷ before) are e = absurd cc
-    by (reply.Found place due ∷ before) are e =
+    by (SweepReply.NoneFound place ∷ before) are e = absurd cc
+    by (SweepReply.Dropped rel ∷ before) are e = absurd cc
+    by (SweepReply.Ended had ∷ before) are e = absurd cc
+    by (SweepReply.Found place due ∷ before) are e =
         record {
           due = due;
           closed = closed;
@@ -117,26 +117,26 @@ next_of sweeper = cond (ltb (sweeper.shard + 1) sweeper.shards) (sweeper.shard +
 
 -- a sweeper that found none, and goes on to the next shard
 pub follows_none_found : (old new : Sweeper) (place : ℕ) (before : List SweepReply) → wanted_of old ≡ wanted.Scan old.shard
-    → new.shards ≡ old.shards → new.shard ≡ next_of old → new.stage ≡ old.stage → Follows old before → Follows new (reply.NoneFound place ∷ before)
+    → new.shards ≡ old.shards → new.shard ≡ next_of old → new.stage ≡ old.stage → Follows old before → Follows new (SweepReply.NoneFound place ∷ before)
 follows_none_found old new place before scans shards shard stage follows = record {
   shard = here;
   wants = there.0 ∙ ap wanted.Scan here;
   drops = there.1;
 }
   where
-    here : new.shard ≡ shard_at new.shards (reply.NoneFound place ∷ before)
+    here : new.shard ≡ shard_at new.shards (SweepReply.NoneFound place ∷ before)
     here =
         let some : 0 < old.shards = omega (arith, old.within) in
         shard ∙ ap (λ n. cond (ltb (n + 1) old.shards) (n + 1) 0) follows.shard
-        ∙ sym (shard-none_found old.shards place before some) ∙ ap (λ n. shard_at n (reply.NoneFound place ∷ before)) (sym shards)
+        ∙ sym (shard-none_found old.shards place before some) ∙ ap (λ n. shard_at n (SweepReply.NoneFound place ∷ before)) (sym shards)
 
     by : (at : Stage) → wanted_at old.shard at ≡ wanted.Scan old.shard
-        → (wanted_at new.shard at ≡ wanted.Scan new.shard) × DropsFound new.shards at (reply.NoneFound place ∷ before)
+        → (wanted_at new.shard at ≡ wanted.Scan new.shard) × DropsFound new.shards at (SweepReply.NoneFound place ∷ before)
     by stages.Scanning h = (refl, tt)
     by (stages.Ending due) h = absurd cc
     by (stages.Dropping due) h = absurd cc
 
-    there : (wanted_of new ≡ wanted.Scan new.shard) × DropsFound new.shards new.stage (reply.NoneFound place ∷ before)
+    there : (wanted_of new ≡ wanted.Scan new.shard) × DropsFound new.shards new.stage (SweepReply.NoneFound place ∷ before)
     there =
-        subst (λ at. (wanted_at new.shard at ≡ wanted.Scan new.shard) × DropsFound new.shards at (reply.NoneFound place ∷ before)) (sym stage)
+        subst (λ at. (wanted_at new.shard at ≡ wanted.Scan new.shard) × DropsFound new.shards at (SweepReply.NoneFound place ∷ before)) (sym stage)
         (by old.stage scans)

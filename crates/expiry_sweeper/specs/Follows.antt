@@ -24,12 +24,12 @@ wanted_of sweeper = wanted_at sweeper.shard sweeper.stage
 
 -- Where a session is to be ended, the drop that is wanted then is that of what was found.
 abbrev pub DropsFound : ℕ → Stage → List SweepReply → Type 0
-DropsFound shards stages.Scanning told = Unit {0}
-DropsFound shards (stages.Ending due) told = drop_found shards told ≡ wanted.Drop due.key due.token
-DropsFound shards (stages.Dropping due) told = Unit {0}
+DropsFound shards stages.Scanning replies = Unit {0}
+DropsFound shards (stages.Ending due) replies = drop_found shards replies ≡ wanted.Drop due.key due.token
+DropsFound shards (stages.Dropping due) replies = Unit {0}
 
 -- The sweeper may have been told this, the latest first.
-pub record Follows (sweeper : Sweeper) (told : List SweepReply) : Type 0 where
-  pub shard : sweeper.shard ≡ shard_at (shards_of sweeper) told
-  pub wants : wanted_of sweeper ≡ sweep_wants (shards_of sweeper) told
-  pub drops : DropsFound (shards_of sweeper) sweeper.stage told
+pub record Follows (sweeper : Sweeper) (replies : List SweepReply) : Type 0 where
+  pub shard : sweeper.shard ≡ shard_at (shards_of sweeper) replies
+  pub wants : wanted_of sweeper ≡ sweep_wants (shards_of sweeper) replies
+  pub drops : DropsFound (shards_of sweeper) sweeper.stage replies

@@ -24,5 +24,5 @@ pub enum SweepReply {
     /// The session was ended at the store, which alone can tell that.
     Ended { closed: Closed },
     /// The answer to the drop.
-    Dropped { told: Rel },
+    Dropped { answer: Rel },
 }

@@ -57,8 +57,8 @@ impl Sweeper {
     /// to scan the same shard again. Where none was found, to scan the next shard, and shard 0 after
     /// the last. It takes no memory.
     pub fn wants(&self) -> SweepWanted
-        ensures wanted { (told : List SweepReply) → Follows self.now told
-            → result ≡ sweep_wants (shards_of self.now) told }
+        ensures wanted { (replies : List SweepReply) → Follows self.now replies
+            → result ≡ sweep_wants (shards_of self.now) replies }
         ensures by_stage { result ≡ wanted_of self.now }
         ensures within { IsWithin (shards_of self.now) result }
     {
@@ -84,11 +84,11 @@ impl Sweeper {
     }
 
     /// Takes in the reply to what is wanted. It takes no memory.
-    pub fn told(&mut self, reply: SweepReply)
+    pub fn hear(&mut self, reply: SweepReply)
         requires { BelongsTo (wanted_of self.old) reply }
         ensures shards { shards_of self.new ≡ shards_of self.old }
-        ensures follows { (told : List SweepReply) → Follows self.old told
-            → Follows self.new (reply ∷ told) }
+        ensures follows { (replies : List SweepReply) → Follows self.old replies
+            → Follows self.new (reply ∷ replies) }
     {
         match reply {
             SweepReply::Found { shard: _, due } => self.stage = Stage::Ending { due },
@@ -98,7 +98,7 @@ impl Sweeper {
                     self.stage = Stage::Dropping { due };
                 }
             }
-            SweepReply::Dropped { told: _ } => self.stage = Stage::Scanning,
+            SweepReply::Dropped { answer: _ } => self.stage = Stage::Scanning,
         }
     }
 
@@ -106,8 +106,8 @@ impl Sweeper {
     fn go_on(&mut self)
         requires { wanted_of self.old ≡ SweepWanted.Scan self.old.shard }
         ensures shards { shards_of self.new ≡ shards_of self.old }
-        ensures follows { (told : List SweepReply) → Follows self.old told
-            → Follows self.new (SweepReply.NoneFound self.old.shard ∷ told) }
+        ensures follows { (replies : List SweepReply) → Follows self.old replies
+            → Follows self.new (SweepReply.NoneFound self.old.shard ∷ replies) }
     {
         let next = self.shard + 1;
         self.shard = if next < self.shards { next } else { 0 };

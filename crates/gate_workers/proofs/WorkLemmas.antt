@@ -9,7 +9,7 @@ use Rattle.std.specs.Option.{option_map}
 use Rattle.rows_model.specs.declared.refusals.Memory.{Memory}
 use Rattle.rows_model.specs.declared.keys.Sid.{Sid}
 use Rattle.session_client.specs.Belongs.{Belongs}
-use Rattle.session_client.specs.Desks.{Call, Began, Asked, with_member, one_more}
+use Rattle.session_client.specs.Desks.{Exchange, Began, Asked, with_member, one_more}
 use Rattle.session_client.specs.Follows.{Follows, plan_of, sid_of}
 use Rattle.session_client.specs.Plans.{writes, IsPlan}
 use Rattle.session_client.specs.declared.plans.Plan.{Plan}
@@ -27,12 +27,12 @@ use Rattle.gate_workers.specs.Notes.{AreNoted, IsUnderWay, HasEnded, AddsRow, Ad
 use Rattle.gate_workers.proofs.SessionLemmas.{with_more}
 
 -- no calls more leave a record
-no_more : (now : Option (List Call)) → now ≡ with_calls [] now
-no_more (Some told) = refl
+no_more : (now : Option (List Exchange)) → now ≡ with_calls [] now
+no_more (Some recorded) = refl
 no_more None = refl
 
 -- a session that has begun is under way
-pub begins : (who : Sid) (plan : Plan) (session : Session) (now after : Option (List Call)) → plan_of session ≡ plan
+pub begins : (who : Sid) (plan : Plan) (session : Session) (now after : Option (List Exchange)) → plan_of session ≡ plan
     → sid_of session ≡ who → Follows session false [] → after ≡ with_member (Began (writes plan) who) now → IsUnderWay who plan session now after (Some [])
 begins who plan session now after of_plan of_number follows recorded =
     record {
@@ -48,10 +48,10 @@ begins who plan session now after of_plan of_number follows recorded =
     }
 
 -- a session that has begun is driven to its end
-pub runs_to_end : (who : Sid) (plan copy : Plan) (writing : Bool) (session : Session) (before now after : Option (List Call))
+pub runs_to_end : (who : Sid) (plan copy : Plan) (writing : Bool) (session : Session) (before now after : Option (List Exchange))
     (notes notes' : Option (List Mark)) (ended : Outcome) → plan_of session ≡ copy → copy ≡ plan → sid_of session ≡ who → Follows session false []
     → now ≡ with_member (Began writing who) before → writing ≡ writes plan → notes ≡ Some []
-    → ((who : Sid) (plan : Plan) (before : Option (List Call)) → IsUnderWay who plan session before now notes → HasEnded who plan ended before after notes')
+    → ((who : Sid) (plan : Plan) (before : Option (List Exchange)) → IsUnderWay who plan session before now notes → HasEnded who plan ended before after notes')
     → HasEnded who plan ended before after notes'
 runs_to_end who plan copy writing session before now after notes notes' ended of_copy of_plan of_number follows begun is none drives =
     let began : now ≡ with_member (Began (writes plan) who) before = subst (λ (w : Bool). now ≡ with_member (Began w who) before) is begun in
@@ -59,7 +59,7 @@ runs_to_end who plan copy writing session before now after notes notes' ended of
     drives who plan before (subst (λ (n : Option (List Mark)). IsUnderWay who plan session before now n) (sym none) fresh)
 
 -- calls and steps that a desk tells of are its work
-told_by : (calls : List Call) (steps : ℕ) (before after : Option (List Call)) (count now : Option ℕ) (at at' : Option ℕ)
+told_by : (calls : List Exchange) (steps : ℕ) (before after : Option (List Exchange)) (count now : Option ℕ) (at at' : Option ℕ)
     → after ≡ with_calls calls before → now ≡ with_steps steps count → at' ≡ at
     → record { calls = after; steps = now; worker = at' } ≡ with_work calls steps (record { calls = before; steps = count; worker = at })
 told_by calls steps before after count now at at' e f same = λ i. record { calls = e i; steps = f i; worker = same i }
@@ -110,19 +110,19 @@ short_from : (ended : Outcome) → is_short ended ≡ true → ended ≡ short_o
 short_from (outcome.Failed causes.Memory) e = refl
 short_from ended e = cc
 
-lacks_where : (who : Sid) (ended : Outcome) (short : Bool) (notes : Option (List Mark)) (calls : List Call)
+lacks_where : (who : Sid) (ended : Outcome) (short : Bool) (notes : Option (List Mark)) (calls : List Exchange)
     → is_short ended ≡ short → (if short then None else option_map (row_with who ended) notes) ≡ None → AreNoted notes calls → MayLackRow ended calls
 lacks_where who ended true notes calls s e h = inl (short_from ended s)
 lacks_where who ended false None calls s e h = inr h
 lacks_where who ended false (Some marks) calls s e h = absurd (some_none e)
 
 -- else there is none
-lacks_by : (who : Sid) (ended : Outcome) (notes : Option (List Mark)) (calls : List Call)
+lacks_by : (who : Sid) (ended : Outcome) (notes : Option (List Mark)) (calls : List Exchange)
     → row_of who ended notes ≡ None → AreNoted notes calls → MayLackRow ended calls
 lacks_by who ended notes calls e h = lacks_where who ended (is_short ended) notes calls refl e h
 
 -- a session that has ended leaves its row, where memory didn't run out for it
-row_from : (who : Sid) (plan : Plan) (ended : Outcome) (before after later : Option (List Call)) (count now : Option ℕ) (at at' : Option ℕ)
+row_from : (who : Sid) (plan : Plan) (ended : Outcome) (before after later : Option (List Exchange)) (count now : Option ℕ) (at at' : Option ℕ)
     (notes : Option (List Mark)) (row : RowView) → HasEnded who plan ended before after notes → row_of who ended notes ≡ Some row
     → later ≡ after → now ≡ one_more count → at' ≡ at
     → AddsRow plan (record { calls = before; steps = count; worker = at }) (record { calls = later; steps = now; worker = at' }) row
@@ -146,25 +146,25 @@ pub stops_before : (plan : Plan) (now : DeskView) → AddsStop plan now now
 stops_before plan now = ([], 0, inl (refl, refl), nothing_done now)
 
 -- it stops where none can begin
-pub stops_unbegun : (plan : Plan) (before now : Option (List Call)) (count count' at at' : Option ℕ) → now ≡ before → count' ≡ count → at' ≡ at
+pub stops_unbegun : (plan : Plan) (before now : Option (List Exchange)) (count count' at at' : Option ℕ) → now ≡ before → count' ≡ count → at' ≡ at
     → AddsStop plan (record { calls = before; steps = count; worker = at }) (record { calls = now; steps = count'; worker = at' })
 stops_unbegun plan before now count count' at at' same idle stays =
     ([], 0, inl (refl, refl), told_by [] 0 before now count count' at at' (same ∙ no_more before) (idle ∙ no_step count) stays)
 
 -- it stops where a session that has begun is ended at once
-pub stops_at_once : (plan : Plan) (who : Sid) (told : Reply) (before now after : Option (List Call)) (count count' at at' : Option ℕ)
-    → now ≡ with_member (Began (writes plan) who) before → after ≡ with_member (Asked who wanted.End told) now
-    → Belongs who wanted.End told → count' ≡ count → at' ≡ at
+pub stops_at_once : (plan : Plan) (who : Sid) (reply : Reply) (before now after : Option (List Exchange)) (count count' at at' : Option ℕ)
+    → now ≡ with_member (Began (writes plan) who) before → after ≡ with_member (Asked who wanted.End reply) now
+    → Belongs who wanted.End reply → count' ≡ count → at' ≡ at
     → AddsStop plan (record { calls = before; steps = count; worker = at }) (record { calls = after; steps = count'; worker = at' })
-stops_at_once plan who told before now after count count' at at' begun asked belongs idle stays =
-    let calls : List Call = Asked who wanted.End told ∷ Began (writes plan) who ∷ [] in
+stops_at_once plan who reply before now after count count' at at' begun asked belongs idle stays =
+    let calls : List Exchange = Asked who wanted.End reply ∷ Began (writes plan) who ∷ [] in
     let recorded : after ≡ with_calls calls before =
-    with_more (Asked who wanted.End told) (Began (writes plan) who ∷ []) before now after
+    with_more (Asked who wanted.End reply) (Began (writes plan) who ∷ []) before now after
     (with_more (Began (writes plan) who) [] before before now (no_more before) begun) asked in
-    (calls, 0, inr (inl (who, told, belongs, refl, refl)), told_by calls 0 before after count count' at at' recorded (idle ∙ no_step count) stays)
+    (calls, 0, inr (inl (who, reply, belongs, refl, refl)), told_by calls 0 before after count count' at at' recorded (idle ∙ no_step count) stays)
 
 -- it stops where a session has run and leaves no row
-stops_after : (who : Sid) (plan : Plan) (ended : Outcome) (before after later : Option (List Call)) (count now at at' : Option ℕ)
+stops_after : (who : Sid) (plan : Plan) (ended : Outcome) (before after later : Option (List Exchange)) (count now at at' : Option ℕ)
     (notes : Option (List Mark)) → HasEnded who plan ended before after notes → row_of who ended notes ≡ None
     → later ≡ after → now ≡ one_more count → at' ≡ at
     → AddsStop plan (record { calls = before; steps = count; worker = at }) (record { calls = later; steps = now; worker = at' })
@@ -180,7 +180,7 @@ pub record Leaves (plan : Plan) (before after : DeskView) (result : Result RowVi
   pub row : IfOk result (λ row. AddsRow plan before after row)
   pub stop : OnErr result (AddsStop plan before after)
 
-pub leaves : (who : Sid) (plan : Plan) (ended : Outcome) (before after later : Option (List Call)) (count now at at' : Option ℕ)
+pub leaves : (who : Sid) (plan : Plan) (ended : Outcome) (before after later : Option (List Exchange)) (count now at at' : Option ℕ)
     (notes : Option (List Mark)) (result : Result RowView Memory) → HasEnded who plan ended before after notes
     → MatchResult result (λ row. row_of who ended notes ≡ Some row) (λ _. row_of who ended notes ≡ None)
     → later ≡ after → now ≡ one_more count → at' ≡ at
@@ -190,8 +190,8 @@ leaves who plan ended before after later count now at at' notes (Ok row) e left 
 leaves who plan ended before after later count now at at' notes (Err x) e none same tended stays =
     record { row = tt; stop = stops_after who plan ended before after later count now at at' notes e none same tended stays }
 
-calls_twice : (first later : List Call) (told : Option (List Call)) → with_calls later (with_calls first told) ≡ with_calls (later ++ first) told
-calls_twice first later (Some told) = ap (λ (calls : List Call). Some calls) (sym (append_assoc later first told))
+calls_twice : (first later : List Exchange) (recorded : Option (List Exchange)) → with_calls later (with_calls first recorded) ≡ with_calls (later ++ first) recorded
+calls_twice first later (Some recorded) = ap (λ (calls : List Exchange). Some calls) (sym (append_assoc later first recorded))
 calls_twice first later None = refl
 
 steps_twice : (some more : ℕ) (count : Option ℕ) → with_steps more (with_steps some count) ≡ with_steps (some + more) count
@@ -199,20 +199,20 @@ steps_twice some more (Some n) = ap (λ (m : ℕ). Some m) (omega arith)
 steps_twice some more None = refl
 
 -- work that is done later
-with_later : (first later : List Call) (some more : ℕ) (before now after : DeskView)
+with_later : (first later : List Exchange) (some more : ℕ) (before now after : DeskView)
     → now ≡ with_work first some before → after ≡ with_work later more now → after ≡ with_work (later ++ first) (some + more) before
 with_later first later some more before now after e f =
     f ∙ (ap (with_work later more) e
     ∙ λ i. record { calls = calls_twice first later before.calls i; steps = steps_twice some more before.steps i; worker = before.worker })
 
 -- one row more
-more_rows : (plans : List Plan) (calls : List Call) (rows : List RowView) (plan : Plan) (last : List Call) (row : RowView)
+more_rows : (plans : List Plan) (calls : List Exchange) (rows : List RowView) (plan : Plan) (last : List Exchange) (row : RowView)
     → AreRows plans calls rows → IsRow plan last row → AreRows (plans ++ plan ∷ []) (last ++ calls) (rows ++ row ∷ [])
-more_rows [] calls [] plan last row h r = (last, [], r, refl, ap (λ (before : List Call). last ++ before) h ∙ append-nil last)
+more_rows [] calls [] plan last row h r = (last, [], r, refl, ap (λ (before : List Exchange). last ++ before) h ∙ append-nil last)
 more_rows [] calls (other ∷ rows) plan last row h r = absurd h
 more_rows (first ∷ plans) calls [] plan last row h r = absurd h
 more_rows (first ∷ plans) calls (other ∷ rows) plan last row h r =
-    (h.0, last ++ h.1, h.2, more_rows plans h.1 rows plan last row h.3 r, ap (λ (before : List Call). last ++ before) h.4 ∙ sym (append_assoc last h.1 h.0))
+    (h.0, last ++ h.1, h.2, more_rows plans h.1 rows plan last row h.3 r, ap (λ (before : List Exchange). last ++ before) h.4 ∙ sym (append_assoc last h.1 h.0))
 
 one_longer : (plans : List Plan) (plan : Plan) → length (plans ++ plan ∷ []) ≡ length plans + 1
 one_longer plans plan = length-append plans (plan ∷ [])
@@ -224,16 +224,16 @@ more_work plans plan before now after rows row w d =
     record {
       calls = d.0 ++ w.calls;
       rows_of = more_rows plans w.calls rows plan d.0 row w.rows_of d.1;
-      told = with_later w.calls d.0 (length plans) 1 before now after w.told d.2
+      works = with_later w.calls d.0 (length plans) 1 before now after w.works d.2
           ∙ ap (λ (n : ℕ). with_work (d.0 ++ w.calls) n before) (sym (one_longer plans plan));
     }
 
 -- no plans are worked by no calls
 pub no_work : (now : DeskView) → IsWork [] now now []
-no_work now = record { calls = []; rows_of = refl; told = nothing_done now }
+no_work now = record { calls = []; rows_of = refl; works = nothing_done now }
 
 -- the calls of rows are those of sessions that have run
-gone_by : (plans : List Plan) (calls : List Call) (rows : List RowView) → AreRows plans calls rows → HaveGone plans calls (length plans)
+gone_by : (plans : List Plan) (calls : List Exchange) (rows : List RowView) → AreRows plans calls rows → HaveGone plans calls (length plans)
 gone_by [] calls [] h = (h, refl)
 gone_by [] calls (row ∷ rows) h = absurd h
 gone_by (plan ∷ plans) calls [] h = absurd h
@@ -249,12 +249,12 @@ gone_by (plan ∷ plans) calls (row ∷ rows) h =
     )
 
 -- so they are up to the plan at which a worker stops
-gone_to : (done : List Plan) (plan : Plan) (left : List Plan) (calls last : List Call) (steps : ℕ) (rows : List RowView)
+gone_to : (done : List Plan) (plan : Plan) (left : List Plan) (calls last : List Exchange) (steps : ℕ) (rows : List RowView)
     → AreRows done calls rows → HasStopped plan last steps → HaveGone (done ++ plan ∷ left) (last ++ calls) (length done + steps)
 gone_to [] plan left calls last steps [] h s =
-    let same : last ++ calls ≡ last = ap (λ (before : List Call). last ++ before) h ∙ append-nil last in
+    let same : last ++ calls ≡ last = ap (λ (before : List Exchange). last ++ before) h ∙ append-nil last in
     let none : 0 + steps ≡ steps = omega arith in
-    inl (subst (λ (n : ℕ). HasStopped plan (last ++ calls) n) (sym none) (subst (λ (all : List Call). HasStopped plan all steps) (sym same) s))
+    inl (subst (λ (n : ℕ). HasStopped plan (last ++ calls) n) (sym none) (subst (λ (all : List Exchange). HasStopped plan all steps) (sym same) s))
 gone_to [] plan left calls last steps (row ∷ rows) h s = absurd h
 gone_to (first ∷ done) plan left calls last steps [] h s = absurd h
 gone_to (first ∷ done) plan left calls last steps (row ∷ rows) h s =
@@ -264,19 +264,19 @@ gone_to (first ∷ done) plan left calls last steps (row ∷ rows) h s =
       length done + steps,
       (row.sid, row.outcome, h.2.has_run, h.2.had_memory),
       gone_to done plan left h.1 last steps rows h.3 s,
-      ap (λ (before : List Call). last ++ before) h.4 ∙ sym (append_assoc last h.1 h.0),
+      ap (λ (before : List Exchange). last ++ before) h.4 ∙ sym (append_assoc last h.1 h.0),
       omega arith,
     )
 
 -- a worker that has a row for each plan has ended
 pub has_worked : (plans : List Plan) (before after : DeskView) (rows : List RowView) → IsWork plans before after rows → HasWorked plans before after
 has_worked plans before after rows w =
-    record { calls = w.calls; steps = length plans; gone = gone_by plans w.calls rows w.rows_of; told = w.told }
+    record { calls = w.calls; steps = length plans; gone = gone_by plans w.calls rows w.rows_of; works = w.works }
 
 -- so has one for which there was no memory to begin with
 pub idle : (plans : List Plan) (now : DeskView) → HasWorked plans now now
-idle [] now = record { calls = []; steps = 0; gone = (refl, refl); told = nothing_done now }
-idle (plan ∷ plans) now = record { calls = []; steps = 0; gone = inl (inl (refl, refl)); told = nothing_done now }
+idle [] now = record { calls = []; steps = 0; gone = (refl, refl); works = nothing_done now }
+idle (plan ∷ plans) now = record { calls = []; steps = 0; gone = inl (inl (refl, refl)); works = nothing_done now }
 
 -- the plans before a plan, that plan and those behind it
 pub split_at_plan : (plans : List Plan) (i : ℕ) (plan : Plan)
@@ -296,7 +296,7 @@ has_stopped plans done left plan before now after rows is w s =
       gone =
           subst (λ (all : List Plan). HaveGone all (s.0 ++ w.calls) (length done + s.1)) (sym is)
           (gone_to done plan left w.calls s.0 s.1 rows w.rows_of s.2);
-      told = with_later w.calls s.0 (length done) s.1 before now after w.told s.3;
+      works = with_later w.calls s.0 (length done) s.1 before now after w.works s.3;
     }
 
 -- what holds of all holds of those in front

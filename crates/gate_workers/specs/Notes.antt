@@ -1,7 +1,7 @@
 -- The marks of a session that is under way.
 use Rattle.std.specs.Prelude.{ℕ, ◌≡◌, ◌≤◌, ◌<◌, Bool, false, List, [], ◌∷◌, ◌++◌, length, Option, Some, None}
 use Rattle.rows_model.specs.declared.keys.Sid.{Sid}
-use Rattle.session_client.specs.Desks.{Call}
+use Rattle.session_client.specs.Desks.{Exchange}
 use Rattle.session_client.specs.Follows.{Follows, plan_of, sid_of}
 use Rattle.session_client.specs.Wants.{wants, is_nothing}
 use Rattle.session_client.specs.declared.plans.Plan.{Plan}
@@ -30,16 +30,16 @@ IsNoted mark None None = Unit {0}
 IsNoted mark None (Some after) = ⊥
 
 -- The marks that are kept are those of these calls. Lost ones are more than there was room for.
-abbrev pub AreNoted : Option (List Mark) → List Call → Type 0
+abbrev pub AreNoted : Option (List Mark) → List Exchange → Type 0
 AreNoted (Some marks) calls = marks ≡ marks_of calls
 AreNoted None calls = marks_room < length (marks_of calls)
 
 -- A session of this number and plan is under way: its calls so far were added to the
 -- record of its desk, where that is told, and its marks are theirs, where they are kept.
-pub record IsUnderWay (who : Sid) (plan : Plan) (session : Session) (before after : Option (List Call)) (notes : Option (List Mark)) : Type 0 where
+pub record IsUnderWay (who : Sid) (plan : Plan) (session : Session) (before after : Option (List Exchange)) (notes : Option (List Mark)) : Type 0 where
   pub short : Bool
   pub heard : List Reply
-  pub calls : List Call
+  pub calls : List Exchange
   pub of_plan : plan_of session ≡ plan
   pub of_number : sid_of session ≡ who
   pub follows : Follows session short heard
@@ -49,8 +49,8 @@ pub record IsUnderWay (who : Sid) (plan : Plan) (session : Session) (before afte
 
 -- A session of this number and plan has ended so: its calls were added to the record
 -- of its desk, where that is told, and its marks are theirs, where they are kept.
-pub record HasEnded (who : Sid) (plan : Plan) (outcome : Outcome) (before after : Option (List Call)) (notes : Option (List Mark)) : Type 0 where
-  pub calls : List Call
+pub record HasEnded (who : Sid) (plan : Plan) (outcome : Outcome) (before after : Option (List Exchange)) (notes : Option (List Mark)) : Type 0 where
+  pub calls : List Exchange
   pub has_run : HasRun who plan calls outcome
   pub recorded : after ≡ with_calls calls before
   pub noted : AreNoted notes calls
@@ -58,10 +58,10 @@ pub record HasEnded (who : Sid) (plan : Plan) (outcome : Outcome) (before after 
 -- The session of this plan has run, and this is its row. Where the desk tells it, exactly its calls were
 -- added to the record, and one step of the sweep was taken.
 abbrev pub AddsRow : Plan → DeskView → DeskView → RowView → Type 0
-AddsRow plan before after row = (calls : List Call) × IsRow plan calls row × (after ≡ with_work calls 1 before)
+AddsRow plan before after row = (calls : List Exchange) × IsRow plan calls row × (after ≡ with_work calls 1 before)
 
 -- The worker stops at this plan. Where the desk tells it, exactly its calls there were added to the
 -- record, and the steps that it took there to their count.
 abbrev pub AddsStop : Plan → DeskView → DeskView → Type 0
 AddsStop plan before after =
-    (calls : List Call) × (steps : ℕ) × HasStopped plan calls steps × (after ≡ with_work calls steps before)
+    (calls : List Exchange) × (steps : ℕ) × HasStopped plan calls steps × (after ≡ with_work calls steps before)

@@ -33,7 +33,7 @@ count_of one rows = count_by (λ (row : RowView). is_one one row.outcome) rows
 
 -- How often the session of a row was told to try again.
 abbrev pub agains_in : RowView → ℕ
-agains_in row = count_by (λ (mark : Mark). is_again mark.told) row.marks
+agains_in row = count_by (λ (mark : Mark). is_again mark.response) row.marks
 
 -- The counts of a transcript. The number of Agains stands still at its type's end.
 abbrev pub tally_of : List RowView → Tally

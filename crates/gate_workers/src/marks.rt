@@ -1,5 +1,5 @@
 use executor::Request;
-use key_shard::{Got, QAnswer, Raising, Rel, Renewal, SetAnswer, Stands};
+use key_shard::{Blocker, Got, QAnswer, Raising, Rel, Renewal, SetAnswer};
 use lease_table::Mode;
 use rows_model::{QKey, Sid};
 use session_client::{Fault, Reply};
@@ -14,7 +14,7 @@ pub enum Response {
     /// The token of an I lease.
     Lease { token: u64 },
     /// A lease stands in the way: try again.
-    Again { standing: Stands },
+    Again { standing: Blocker },
     /// The asker has quarantined the key itself.
     Own,
     /// The store's answer, with this stamp.
@@ -38,7 +38,7 @@ pub enum Response {
     /// There was no memory to raise the quarantine.
     RaiseBack,
     /// The answer to a renewal, or that there was no memory for it.
-    Renew { told: Option<Renewal> },
+    Renew { answer: Option<Renewal> },
     /// The store told what it would answer.
     Staged,
     /// The store has no such answer.
@@ -50,7 +50,7 @@ pub enum Response {
     /// Whether the session was open at the store.
     End { was: bool },
     /// The answer to a release.
-    Rel { told: Rel },
+    Rel { answer: Rel },
     /// There was no memory to put the new value: the quarantine stands.
     SarBack,
     /// The request was not made.
@@ -72,11 +72,11 @@ impl Response {
             Reply::Answer { answer } => Response::Answer {
                 stamp: answer.stamp,
             },
-            Reply::Set { told } => of_set(*told),
-            Reply::Quar { told } => of_quarantine(told),
-            Reply::Raise { told } => of_raise(told),
+            Reply::Set { answer } => of_set(*answer),
+            Reply::Quar { answer } => of_quarantine(answer),
+            Reply::Raise { answer } => of_raise(answer),
             Reply::RaiseBack { grant: _ } => Response::RaiseBack,
-            Reply::Renew { grant: _, told } => Response::Renew { told: *told },
+            Reply::Renew { grant: _, answer } => Response::Renew { answer: *answer },
             Reply::Staged { value: _, txn: _ } => Response::Staged,
             Reply::NotStaged { fault, txn: _ } => Response::NotStaged { fault: *fault },
             Reply::Committed {
@@ -90,7 +90,7 @@ impl Response {
                 grants: _,
             } => Response::NotCommitted { fault: *fault },
             Reply::End { was } => Response::End { was: *was },
-            Reply::Rel { told } => Response::Rel { told: *told },
+            Reply::Rel { answer } => Response::Rel { answer: *answer },
             Reply::SarBack { grant: _ } => Response::SarBack,
             Reply::Fault { fault } => Response::Fault { fault: *fault },
             Reply::Nothing => Response::Nothing,
@@ -117,20 +117,20 @@ fn of_got(got: &Got) -> Response
 }
 
 /// The bare form of the answer to a set.
-fn of_set(told: SetAnswer) -> Response
-    ensures { result ≡ response_of (replies.Set told) }
+fn of_set(answer: SetAnswer) -> Response
+    ensures { result ≡ response_of (replies.Set answer) }
 {
-    match told {
+    match answer {
         SetAnswer::Stored { evicted } => Response::Stored { evicted },
         SetAnswer::Void => Response::Void,
     }
 }
 
 /// The bare form of the answer to a quarantine.
-fn of_quarantine(told: &QAnswer) -> Response
-    ensures { result ≡ response_of (replies.Quar told.now) }
+fn of_quarantine(answer: &QAnswer) -> Response
+    ensures { result ≡ response_of (replies.Quar answer.now) }
 {
-    match told {
+    match answer {
         QAnswer::Granted { grant, old: _ } => Response::Granted {
             token: grant.token(),
         },
@@ -143,10 +143,10 @@ fn of_quarantine(told: &QAnswer) -> Response
 }
 
 /// The bare form of the answer to a raise.
-fn of_raise(told: &Raising) -> Response
-    ensures { result ≡ response_of (replies.Raise told.now) }
+fn of_raise(answer: &Raising) -> Response
+    ensures { result ≡ response_of (replies.Raise answer.now) }
 {
-    match told {
+    match answer {
         Raising::Raised { grant, old: _ } => Response::Raised {
             token: grant.token(),
         },
@@ -159,5 +159,5 @@ fn of_raise(told: &Raising) -> Response
 #[derive(Clone, Copy, PartialEq, Eq)]
 pub struct Mark {
     pub asked: Request,
-    pub told: Response,
+    pub response: Response,
 }

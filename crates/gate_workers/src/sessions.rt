@@ -1,6 +1,6 @@
 ghost use Rattle.std.specs.Prelude.{◌≡◌, ℕ, Bool, List, Option, IfOk, OnErr};
 ghost use Rattle.rows_model.specs.declared.keys.Sid.{Sid};
-ghost use Rattle.session_client.specs.Desks.{Call};
+ghost use Rattle.session_client.specs.Desks.{Exchange};
 ghost use Rattle.session_client.specs.Follows.{IsReady};
 ghost use Rattle.session_client.specs.Plans.{IsPlan, writes};
 ghost use Rattle.session_client.specs.declared.plans.Plan.{Plan};
@@ -63,7 +63,7 @@ fn drive<R: Wait, D: Desk, G: Gate>(
 ) -> Outcome
     requires ready { IsReady session.old }
     requires going { IsGoing session.old }
-    ensures ended { (who : Sid) (plan : Plan) (before : Option (List Call)) →
+    ensures ended { (who : Sid) (plan : Plan) (before : Option (List Exchange)) →
         IsUnderWay who plan session.old before (D.record_of desk.old) notes.old →
         HasEnded who plan result before (D.record_of desk.new) notes.new }
     ensures tends { D.tends desk.new ≡ D.tends desk.old }
@@ -91,7 +91,7 @@ fn step<D: Desk, G: Gate>(
     requires wanting { IsWanting session.old }
     ensures ready { IsReady session.new }
     ensures going { IsGoing session.new }
-    ensures goes_on { (who : Sid) (plan : Plan) (before : Option (List Call)) →
+    ensures goes_on { (who : Sid) (plan : Plan) (before : Option (List Exchange)) →
         IsUnderWay who plan session.old before (D.record_of desk.old) notes.old →
         IsUnderWay who plan session.new before (D.record_of desk.new) notes.new }
     ensures tends { D.tends desk.new ≡ D.tends desk.old }
@@ -106,8 +106,8 @@ fn step<D: Desk, G: Gate>(
     let reply = desk.call(sid, wanted);
     notes.note(Mark {
         asked,
-        told: Response::of(&reply),
+        response: Response::of(&reply),
     });
     // Where memory runs out here, the session's outcome says so.
-    let _ = session.told(reply);
+    let _ = session.hear(reply);
 }

@@ -96,9 +96,9 @@ fn count(rows: &[Row], counted: Counted) -> u64
 
 /// Whether a session was told to try again.
 fn is_again(mark: &Mark) -> bool
-    ensures { result ≡ is_again mark.now.told }
+    ensures { result ≡ is_again mark.now.response }
 {
-    matches!(mark.told, Response::Again { standing: _ })
+    matches!(mark.response, Response::Again { standing: _ })
 }
 
 /// How often the session of a row was told to try again.

@@ -18,7 +18,7 @@ pub trait Clock: Sync {
 pub struct ListClock {
     times: Vec<u64>,
     /// How many times were told, or more where all were.
-    told: AtomicU64,
+    used: AtomicU64,
 }
 
 impl Model for ListClock {
@@ -39,7 +39,7 @@ impl ListClock {
     {
         ListClock {
             times,
-            told: AtomicU64::new(0),
+            used: AtomicU64::new(0),
         }
     }
 }
@@ -50,11 +50,11 @@ impl Clock for ListClock {
         ensures one_of_them { Contains self.now result }
     {
         let last = self.times.len() - 1;
-        let told = self.told.load(Ordering::SeqCst);
-        if told >= last as u64 {
+        let used = self.used.load(Ordering::SeqCst);
+        if used >= last as u64 {
             return self.times[last];
         }
-        let place = self.told.fetch_add(1, Ordering::SeqCst);
+        let place = self.used.fetch_add(1, Ordering::SeqCst);
         self.times[(place as usize).min(last)]
     }
 }

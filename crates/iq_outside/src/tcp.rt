@@ -166,7 +166,7 @@ impl Line for TcpLine {
 
     ghost writing = { λ _. refl };
 
-    ghost tells_given = { λ _ told. told };
+    ghost tells_given = { λ _ given. given };
 
     ghost finished = { λ line. line.finished };
 

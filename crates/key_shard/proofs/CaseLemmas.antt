@@ -17,7 +17,7 @@ use Rattle.lease_table.proofs.ListLemmas.{find-none, filter-not-all}
 use Rattle.key_shard.specs.Permit.{Permit}
 use Rattle.key_shard.specs.declared.replies.How.{How}
 use Rattle.key_shard.specs.declared.steps.Ended.TheVariants as ended
-use Rattle.key_shard.specs.declared.steps.Stands.{Stands}
+use Rattle.key_shard.specs.declared.steps.Blocker.{Blocker}
 use Rattle.key_shard.specs.declared.steps.Step.{Step}
 use Rattle.key_shard.specs.declared.steps.Step.TheVariants as step
 use Rattle.key_shard.specs.Past.{Terms, standing, recorded, entry, evicts, own_of, others_of, holder_of, quar_of, next_token, deadline_at}
@@ -35,7 +35,7 @@ map_none (quar ∷ quars) e = cc
 
 -- a get that misses is answered Again, or has a lease where no quarantine stands
 missed : (P : Step → Type 0) (terms : Terms) (past : List Step) (key : QKey) (who : Sid) (floor now : ℕ) → own_of key who past ≡ None →
-    ((stands : Stands) → P (step.Again key who floor now stands)) →
+    ((stands : Blocker) → P (step.Again key who floor now stands)) →
     (standing key past ≡ [] → P (step.Lease key who floor now (next_token terms past) (deadline_at terms now))) → P (miss_step terms past key who floor now)
 missed P terms past key who floor now none again lease =
     by (own_of key who past) (map (λ quar. way_of quar.mode) (others_of key who past)) (is_unexpired now (recorded key past)) none
@@ -53,7 +53,7 @@ missed P terms past key who floor now none again lease =
 -- a get is one of four: a hit of the entry, an Own, an Again, or a lease where no quarantine stands
 pub got_cases : (P : Step → Type 0) (terms : Terms) (past : List Step) (key : QKey) (who : Sid) (floor now : ℕ) →
     ((value : List ℕ) (stamp : ℕ) → entry key past ≡ Some (value, stamp) → P (step.Hit key who floor value stamp)) → P (step.Own key who) →
-    ((stands : Stands) → P (step.Again key who floor now stands)) →
+    ((stands : Blocker) → P (step.Again key who floor now stands)) →
     (standing key past ≡ [] → P (step.Lease key who floor now (next_token terms past) (deadline_at terms now))) → P (get_step terms past key who floor now)
 got_cases P terms past key who floor now hit own again lease = by_own (own_of key who past) refl
   where

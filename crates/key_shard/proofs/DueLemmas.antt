@@ -341,9 +341,9 @@ same-place a b h k =
     (same, grind (arith, nat_tests))
 
 -- of what stands on a key one is told this way at most
-pub same-told : (quars : List Quar) (key : QKey) (a b : Quar) → AllOfOwnToken quars → OneOf (λ quar. quar ≡ a) quars → OneOf (λ quar. quar ≡ b) quars
+pub same-due : (quars : List Quar) (key : QKey) (a b : Quar) → AllOfOwnToken quars → OneOf (λ quar. quar ≡ a) quars → OneOf (λ quar. quar ≡ b) quars
     → a.token ≡ b.token → a ≡ b
-same-told quars key a b own here there same =
+same-due quars key a b own here there same =
     some_same (sym (find-there a here) ∙ ap (λ t. find (has_token t) quars) same ∙ find-there b there)
   where
     find-there : (one : Quar) → OneOf (λ quar. quar ≡ one) quars → find (has_token one.token) quars ≡ Some one
@@ -352,12 +352,12 @@ same-told quars key a b own here there same =
         subst (λ quar. find (has_token quar.token) quars ≡ Some quar) found.2 found.1
 
 -- what stands and is told
-told-there : (now : ℕ) (key : QKey) (due : Due) (quars : List Quar) → OneOf (IsToldOf now key due) quars
+due-there : (now : ℕ) (key : QKey) (due : Due) (quars : List Quar) → OneOf (IsToldOf now key due) quars
     → (quar : Quar) × OneOf (λ other. other ≡ quar) quars × IsToldOf now key due quar
-told-there now key due [] h = absurd h
-told-there now key due (one ∷ quars) (inl here) = (one, inl refl, here)
-told-there now key due (one ∷ quars) (inr there) =
-    let h = told-there now key due quars there in
+due-there now key due [] h = absurd h
+due-there now key due (one ∷ quars) (inl here) = (one, inl refl, here)
+due-there now key due (one ∷ quars) (inr there) =
+    let h = due-there now key due quars there in
     (h.0, inr h.1, h.2)
 
 -- where nothing is due nothing due stands
@@ -385,15 +385,15 @@ one-first_due now stands None None own h k = refl
 one-first_due now stands None (Some due) own h k = absurd (none-stands now stands due h k.0)
 one-first_due now stands (Some due) None own h k = absurd (none-stands now stands due k h.0)
 one-first_due now stands (Some a) (Some b) own h k =
-    let p = told-there now a.key a (stands a.key) (any-one (IsToldOf now a.key a) (stands a.key) h.0) in
-    let q = told-there now b.key b (stands b.key) (any-one (IsToldOf now b.key b) (stands b.key) k.0) in
+    let p = due-there now a.key a (stands a.key) (any-one (IsToldOf now a.key a) (stands a.key) h.0) in
+    let q = due-there now b.key b (stands b.key) (any-one (IsToldOf now b.key b) (stands b.key) k.0) in
     let before = none-before now stands a b h.1 q in
     let after = none-before now stands b a k.1 p in
     let one = same-place b a before after in
     let keys : b.key ≡ a.key = same_key-true b.key a.key one.0 in
     let theirs : OneOf (λ other. other ≡ q.0) (stands a.key) = subst (λ key. OneOf (λ other. other ≡ q.0) (stands key)) keys q.1 in
     let tokens : p.0.token ≡ q.0.token = sym (ap (λ d. d.token) p.2.1) ∙ sym one.1 ∙ ap (λ d. d.token) q.2.1 in
-    let quars : p.0 ≡ q.0 = same-told (stands a.key) a.key p.0 q.0 (own a.key) p.1 theirs tokens in
+    let quars : p.0 ≡ q.0 = same-due (stands a.key) a.key p.0 q.0 (own a.key) p.1 theirs tokens in
     ap Some (p.2.1 ∙ ap (due_as a.key) quars ∙ ap (λ key. due_as key q.0) (sym keys) ∙ sym q.2.1)
 
 -- after a legal past what a scan tells is what is found by looking back
@@ -406,10 +406,10 @@ first_due-one terms past now found legal h =
     own key = distinct terms past key (legal_stands_well terms past legal key)
 
 -- so is what is told by a table that has what stands on each key
-pub first_due-told : (terms : Terms) (past : List Step) (now : ℕ) (stands : QKey → List Quar) (found : Option Due) → IsLegalPast terms past
+pub first_due-found : (terms : Terms) (past : List Step) (now : ℕ) (stands : QKey → List Quar) (found : Option Due) → IsLegalPast terms past
     → ((key : QKey) → stands key ≡ standing key past)
     → IfSome found (StandsDue now stands) → IfSome found (NoneDueBefore now stands) → IfNone found (NoneDue now stands) → found ≡ first_due now past
-first_due-told terms past now stands found legal same due least none =
+first_due-found terms past now stands found legal same due least none =
     first_due-one terms past now found legal (subst (λ (f : QKey → List Quar). IsFirstDue now f found) (λ i key. same key i) (by found due least none))
   where
     by : (found : Option Due) → IfSome found (StandsDue now stands) → IfSome found (NoneDueBefore now stands) → IfNone found (NoneDue now stands)

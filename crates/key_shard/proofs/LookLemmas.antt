@@ -13,7 +13,7 @@ use Rattle.lease_table.specs.Leases as leases
 use Rattle.lease_table.specs.Leases.{way_of, is_of, is_unexpired, holding_of}
 use Rattle.lease_table.proofs.ListLemmas.{find-none, filter-not-all}
 use Rattle.entry_table.specs.Entries.{Item}
-use Rattle.key_shard.specs.declared.steps.Stands.TheVariants.{I, Q}
+use Rattle.key_shard.specs.declared.steps.Blocker.TheVariants.{I, Q}
 use Rattle.key_shard.specs.declared.steps.Step.{Step}
 use Rattle.key_shard.specs.declared.steps.Step.TheVariants.{Hit, Again, Own}
 use Rattle.key_shard.specs.declared.lookups.Look.TheVariants as looks

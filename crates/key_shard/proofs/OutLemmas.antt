@@ -120,8 +120,8 @@ may-take-one body grant out same = place-one (steps_of body) out
 
 pub may-take-two : (body : Body) (grant : Permit) (quar : Quar) → quar_of grant.key grant.token (steps_of body) ≡ Some quar → MayTake body grant 2
 may-take-two body grant quar stands out same =
-    let told : permit_of body.no out ≡ grant = same_permit-true grant (permit_of body.no out) same in
-    place-two (steps_of body) out quar (ap (λ (g : Permit). quar_of g.key g.token (steps_of body)) told ∙ stands)
+    let is_so : permit_of body.no out ≡ grant = same_permit-true grant (permit_of body.no out) same in
+    place-two (steps_of body) out quar (ap (λ (g : Permit). quar_of g.key g.token (steps_of body)) is_so ∙ stands)
 
 -- so many places are kept for it
 pub places-out : (body : Body) (grant : Permit) (n : ℕ) → MayTake body grant n → IsKept body → is_out (shown body) grant ≡ true → n ≤ body.promised
@@ -150,10 +150,10 @@ held-less number past grant outs gone held key token quar e =
     other out for =
         elim (cases_Bool (same_permit grant (permit_of number out))) [
           | inl same ↦
-              let told : permit_of number out ≡ grant = same_permit-true grant (permit_of number out) same in
+              let is_so : permit_of number out ≡ grant = same_permit-true grant (permit_of number out) same in
               let parts = and_parts (same_key key out.key) (out.token == token) for in
-              absurd (no_more (same_key-true key out.key parts.0 ∙ ap (λ (p : Permit). p.key) told) (sym (eqb-true out.token token parts.1)
-              ∙ ap (λ (p : Permit). p.token) told))
+              absurd (no_more (same_key-true key out.key parts.0 ∙ ap (λ (p : Permit). p.key) is_so) (sym (eqb-true out.token token parts.1)
+              ∙ ap (λ (p : Permit). p.token) is_so))
           | inr apart ↦ ap not apart
         ]
 
@@ -189,21 +189,21 @@ view-returned old terms history outs gone step grant same pushed less stays =
     ∙ ap (λ o. made (terms_of old) (old.history.steps ++ step ∷ []) o old.history.gone) out
 
 -- the quarantine of a token, as the table of leases tells it
-pub stands-told : {terms : Terms} {past : List Step} {list : List Item} {table : List Lease} {next : ℕ} → Ties terms past list table next
-    → (key : QKey) (token : ℕ) (key' : QKey) (token' : ℕ) (told : Option Quar)
-    → key' ≡ key → token' ≡ token → told ≡ find (has_token token') (leases.quars key' table) → quar_of key token past ≡ told
-stands-told {table = table} h key token key' token' told keys tokens e =
+pub stands-found : {terms : Terms} {past : List Step} {list : List Item} {table : List Lease} {next : ℕ} → Ties terms past list table next
+    → (key : QKey) (token : ℕ) (key' : QKey) (token' : ℕ) (found : Option Quar)
+    → key' ≡ key → token' ≡ token → found ≡ find (has_token token') (leases.quars key' table) → quar_of key token past ≡ found
+stands-found {table = table} h key token key' token' found keys tokens e =
     sym (e ∙ ap (λ t. find (has_token t) (leases.quars key' table)) tokens
     ∙ ap (λ k. find (has_token token) (leases.quars k table)) keys ∙ ap (find (has_token token)) (h.quars key))
 
 -- what the end of a quarantine that stands leaves
 pub ended-leaves : {terms : Terms} {past : List Step} {list : List Item} {table : List Lease} {next : ℕ} → Ties terms past list table next
-    → (key : QKey) (token : ℕ) (key' : QKey) (token' : ℕ) (told : Option Quar) (quar : Quar) (new : List Lease) → key' ≡ key → token' ≡ token
-    → told ≡ find (has_token token') (leases.quars key' table)
-    → OnSome told (Leaves key' (leases.recorded key' table) (filter (λ q. not (has_token token' q)) (leases.quars key' table)) table new)
+    → (key : QKey) (token : ℕ) (key' : QKey) (token' : ℕ) (found : Option Quar) (quar : Quar) (new : List Lease) → key' ≡ key → token' ≡ token
+    → found ≡ find (has_token token') (leases.quars key' table)
+    → OnSome found (Leaves key' (leases.recorded key' table) (filter (λ q. not (has_token token' q)) (leases.quars key' table)) table new)
     → quar_of key token past ≡ Some quar → Leaves key (leases.recorded key table) (filter (λ q. not (has_token token q)) (leases.quars key table)) table new
-ended-leaves {table = table} h key token key' token' told quar new keys tokens e after stands =
-    let some : told ≡ Some quar = sym (stands-told h key token key' token' told keys tokens e) ∙ stands in
+ended-leaves {table = table} h key token key' token' found quar new keys tokens e after stands =
+    let some : found ≡ Some quar = sym (stands-found h key token key' token' found keys tokens e) ∙ stands in
     let leaves : Leaves key' (leases.recorded key' table) (filter (λ q. not (has_token token' q)) (leases.quars key' table)) table new =
     subst (λ o. OnSome o (Leaves key' (leases.recorded key' table) (filter (λ q. not (has_token token' q)) (leases.quars key' table)) table new)) some after in
     subst (λ t. Leaves key (leases.recorded key table) (filter (λ q. not (has_token t q)) (leases.quars key table)) table new) tokens
@@ -216,10 +216,10 @@ puts-none quar hows.Drop = refl
 puts-none quar (hows.Shift stamp) = refl
 
 -- what a release and a replace owe of a grant that is out
-pub owes-release : (body : Body) (grant : Permit) (how : How) (told : Option Quar) → IsKept body → is_out (shown body) grant ≡ true → FitsMode grant.mode how
-    → quar_of grant.key grant.token (steps_of body) ≡ told → OwesRelease (steps_of body) grant how (quar_of grant.key grant.token (steps_of body))
-owes-release body grant how told kept out fits e =
-    subst (OwesRelease (steps_of body) grant how) (sym e) (by told e)
+pub owes-release : (body : Body) (grant : Permit) (how : How) (found : Option Quar) → IsKept body → is_out (shown body) grant ≡ true → FitsMode grant.mode how
+    → quar_of grant.key grant.token (steps_of body) ≡ found → OwesRelease (steps_of body) grant how (quar_of grant.key grant.token (steps_of body))
+owes-release body grant how found kept out fits e =
+    subst (OwesRelease (steps_of body) grant how) (sym e) (by found e)
   where
     by : (o : Option Quar) → quar_of grant.key grant.token (steps_of body) ≡ o → OwesRelease (steps_of body) grant how o
     by None is = (out-granted body grant kept out).0
@@ -227,10 +227,10 @@ owes-release body grant how told kept out fits e =
         let of = out-stands body grant kept out quar is in
         (of, subst (λ m. FitsMode m how) (sym of.mode) fits)
 
-pub owes-replace : (body : Body) (grant : Permit) (told : Option Quar) → IsKept body → is_out (shown body) grant ≡ true → grant.mode ≡ Refresh
-    → quar_of grant.key grant.token (steps_of body) ≡ told → OwesReplace (steps_of body) grant (quar_of grant.key grant.token (steps_of body))
-owes-replace body grant told kept out refresh e =
-    subst (OwesReplace (steps_of body) grant) (sym e) (by told e)
+pub owes-replace : (body : Body) (grant : Permit) (found : Option Quar) → IsKept body → is_out (shown body) grant ≡ true → grant.mode ≡ Refresh
+    → quar_of grant.key grant.token (steps_of body) ≡ found → OwesReplace (steps_of body) grant (quar_of grant.key grant.token (steps_of body))
+owes-replace body grant found kept out refresh e =
+    subst (OwesReplace (steps_of body) grant) (sym e) (by found e)
   where
     by : (o : Option Quar) → quar_of grant.key grant.token (steps_of body) ≡ o → OwesReplace (steps_of body) grant o
     by None is = (out-granted body grant kept out).0

@@ -29,7 +29,7 @@ use Rattle.key_shard.specs.LegalStands.{StandsWell}
 use Rattle.key_shard.specs.Kept.{Ties, IsKept, IsOut, AreHeld, is_for, permit_of, places_for, places_of, raised_out, shown, steps_of, terms_of}
 use Rattle.key_shard.specs.Shards.{ShardView, is_out, raised_permit, stepped}
 use Rattle.key_shard.proofs.BaseLaws.{granted-same}
-use Rattle.key_shard.proofs.DueLemmas.{found-there, same-told}
+use Rattle.key_shard.proofs.DueLemmas.{found-there, same-due}
 use Rattle.key_shard.proofs.LegalLemmas.{distinct, found_own, found-passes, token_stands}
 use Rattle.key_shard.proofs.OutLemmas.{any-map, out-granted, out-stands}
 use Rattle.key_shard.proofs.PlaceLemmas.{StoodSome, next-grows, places-some_kept}
@@ -233,28 +233,28 @@ owes-renew body grant kept out = by (quar_of grant.key grant.token (steps_of bod
 -- ---- the verdict on a raise
 
 -- as the past tells it
-pub raise-told : {terms : Terms} {past : List Step} {list : List Item} {table : List Lease} {next : ℕ} → Ties terms past list table next
+pub raise-found : {terms : Terms} {past : List Step} {list : List Item} {table : List Lease} {next : ℕ} → Ties terms past list table next
     → (key key' : QKey) (sid sid' : Sid) (token token' : ℕ) (v : Verdict) → key' ≡ key → sid' ≡ sid → token' ≡ token
     → v ≡ raise_in sid' token' (leases.quars key' table) → raise_in sid token (standing key past) ≡ v
-raise-told {table = table} h key key' sid sid' token token' v keys sids tokens e =
+raise-found {table = table} h key key' sid sid' token token' v keys sids tokens e =
     sym (e ∙ ap (λ s. raise_in s token' (leases.quars key' table)) sids ∙ ap (λ t. raise_in sid t (leases.quars key' table)) tokens
     ∙ ap (λ k. raise_in sid token (leases.quars k table)) keys ∙ ap (raise_in sid token) (h.quars key))
 
 -- the other session's quarantine, as the past tells it
-pub other-told : {terms : Terms} {past : List Step} {list : List Item} {table : List Lease} {next : ℕ} → Ties terms past list table next
-    → (key key' : QKey) (sid sid' : Sid) (told : Option Quar) → key' ≡ key → sid' ≡ sid
-    → told ≡ first (others_in sid' (leases.quars key' table)) → told ≡ first (others_in sid (standing key past))
-other-told {table = table} h key key' sid sid' told keys sids e =
+pub other-found : {terms : Terms} {past : List Step} {list : List Item} {table : List Lease} {next : ℕ} → Ties terms past list table next
+    → (key key' : QKey) (sid sid' : Sid) (found : Option Quar) → key' ≡ key → sid' ≡ sid
+    → found ≡ first (others_in sid' (leases.quars key' table)) → found ≡ first (others_in sid (standing key past))
+other-found {table = table} h key key' sid sid' found keys sids e =
     e ∙ ap (λ s. first (others_in s (leases.quars key' table))) sids
     ∙ ap (λ k. first (others_in sid (leases.quars k table))) keys ∙ ap (λ qs. first (others_in sid qs)) (h.quars key)
 
 -- the step that names it
 pub shared-named : {terms : Terms} {past : List Step} {list : List Item} {table : List Lease} {next : ℕ} → Ties terms past list table next
-    → (permit : Permit) (key : QKey) (sid : Sid) (token : ℕ) (told : Option Quar) (quar : Quar) → key ≡ permit.key → sid ≡ permit.sid → token ≡ permit.token
-    → told ≡ first (others_in sid (leases.quars key table)) → told ≡ Some quar
+    → (permit : Permit) (key : QKey) (sid : Sid) (token : ℕ) (found : Option Quar) (quar : Quar) → key ≡ permit.key → sid ≡ permit.sid → token ≡ permit.token
+    → found ≡ first (others_in sid (leases.quars key table)) → found ≡ Some quar
     → shared_step permit (first (others_in permit.sid (standing permit.key past))) ≡ Shared key sid token quar.sid
-shared-named h permit key sid token told quar keys sids tokens e is =
-    ap (shared_step permit) (sym (other-told h permit.key key permit.sid sid told keys sids e) ∙ is)
+shared-named h permit key sid token found quar keys sids tokens e is =
+    ap (shared_step permit) (sym (other-found h permit.key key permit.sid sid found keys sids e) ∙ is)
     ∙ sym (ap (λ k. Shared k sid token quar.sid) keys ∙ ap (λ s. Shared permit.key s token quar.sid) sids
     ∙ ap (λ t. Shared permit.key permit.sid t quar.sid) tokens)
 
@@ -266,7 +266,7 @@ pub raise-leaves : {terms : Terms} {past : List Step} {list : List Item} {table 
     → raise_in sid token (standing key past) ≡ verdicts.Raise
     → Leaves key (leases.recorded key table) (map (raised token) (leases.quars key table)) table new
 raise-leaves {table = table} h key key' sid sid' token token' v new keys sids tokens e after raises =
-    let is : v ≡ verdicts.Raise = sym (raise-told h key key' sid sid' token token' v keys sids tokens e) ∙ raises in
+    let is : v ≡ verdicts.Raise = sym (raise-found h key key' sid sid' token token' v keys sids tokens e) ∙ raises in
     let leaves : Leaves key' (leases.recorded key' table) (map (raised token') (leases.quars key' table)) table new =
     subst (λ x. MatchBool (is_raised x) (Leaves key' (leases.recorded key' table) (map (raised token') (leases.quars key' table)) table new)
     (new ≡ table)) is after in
@@ -275,13 +275,13 @@ raise-leaves {table = table} h key key' sid sid' token token' v new keys sids to
 
 -- what a renewal leaves of a quarantine that is there
 pub renew-leaves : {terms : Terms} {past : List Step} {list : List Item} {table : List Lease} {next : ℕ} → Ties terms past list table next
-    → (key key' : QKey) (token token' deadline deadline' : ℕ) (told : Bool) (new : List Lease) → key' ≡ key → token' ≡ token → deadline' ≡ deadline
-    → told ≡ is_some (find (has_token token') (leases.quars key' table))
-    → MatchBool told (Leaves key' (leases.recorded key' table) (map (renewed token' deadline') (leases.quars key' table)) table new) (new ≡ table)
+    → (key key' : QKey) (token token' deadline deadline' : ℕ) (flag : Bool) (new : List Lease) → key' ≡ key → token' ≡ token → deadline' ≡ deadline
+    → flag ≡ is_some (find (has_token token') (leases.quars key' table))
+    → MatchBool flag (Leaves key' (leases.recorded key' table) (map (renewed token' deadline') (leases.quars key' table)) table new) (new ≡ table)
     → is_some (quar_of key token past) ≡ true
     → Leaves key (leases.recorded key table) (map (renewed token deadline) (leases.quars key table)) table new
-renew-leaves {table = table} h key key' token token' deadline deadline' told new keys tokens until e after stands =
-    let is : told ≡ true =
+renew-leaves {table = table} h key key' token token' deadline deadline' flag new keys tokens until e after stands =
+    let is : flag ≡ true =
     e ∙ ap (λ t. is_some (find (has_token t) (leases.quars key' table))) tokens
     ∙ ap (λ k. is_some (find (has_token token) (leases.quars k table))) keys ∙ ap (λ qs. is_some (find (has_token token) qs)) (h.quars key) ∙ stands in
     let leaves : Leaves key' (leases.recorded key' table) (map (renewed token' deadline') (leases.quars key' table)) table new =
@@ -341,7 +341,7 @@ raise-none terms past permit well of invalidates raise refuse = by (quar_of perm
         ∙ token_stands permit.key permit.token past quar e in
         let own = found_own terms past permit.key permit.sid permit.token well mine in
         let one : own.0 ≡ quar =
-        same-told (standing permit.key past) permit.key own.0 quar (distinct terms past permit.key well)
+        same-due (standing permit.key past) permit.key own.0 quar (distinct terms past permit.key well)
         (found-there (is_of permit.sid) (standing permit.key past) own.0 own.1)
         (found-there (has_token permit.token) (standing permit.key past) quar e) (own.2 ∙ sym named) in
         let way : way_of own.0.mode ≡ invalidate = ap (λ (q : Quar). way_of q.mode) one ∙ ap way_of (is.mode ∙ invalidates) in
@@ -380,4 +380,4 @@ pub raise-judged : (body : Body) (grant : Permit) → IsKept body → is_out (sh
     → Answers (terms_of body) (steps_of body) (raise_by grant (first (others_in grant.sid (standing grant.key (steps_of body)))) w)
 raise-judged body grant kept out invalidates key sid token v w keys sids tokens e is =
     raise-answers body grant kept out invalidates _ (sym (ap (raise_by grant (first (others_in grant.sid (standing grant.key (steps_of body)))))
-    (raise-told kept.ties grant.key key grant.sid sid grant.token token v keys sids tokens e ∙ is)))
+    (raise-found kept.ties grant.key key grant.sid sid grant.token token v keys sids tokens e ∙ is)))

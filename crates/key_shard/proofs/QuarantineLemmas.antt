@@ -66,9 +66,9 @@ step-granted terms past key who mode shift now given =
     given-by terms past key who mode shift now (verdict (seen_by key who now past) (quarantine (way_of mode))) given
 
 -- who holds a key: as the past and as the table of leases tell it
-pub holder-told : {terms : Terms} {past : List Step} {list : List Item} {table : List Lease} {next : ℕ}
+pub holder-found : {terms : Terms} {past : List Step} {list : List Item} {table : List Lease} {next : ℕ}
     → Ties terms past list table next → (key : QKey) (who : Sid) → holder_in who (leases.quars key table) ≡ holder_of key who past
-holder-told h key who = ap (holder_in who) (h.quars key)
+holder-found h key who = ap (holder_in who) (h.quars key)
 
 some-first : (quars : List Quar) → (quars ≡ [] → ⊥) → is_some (first quars) ≡ true
 some-first [] h = absurd (h refl)

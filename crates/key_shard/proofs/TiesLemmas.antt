@@ -18,7 +18,7 @@ use Rattle.lease_table.specs.Leases.{Leaves, has_token, raised, renewed}
 use Rattle.lease_table.specs.declared.records.Mode.{Mode}
 use Rattle.entry_table.specs.Entries.{Item, Table, IsSound, lookup, without, keys, promoted}
 use Rattle.entry_table.proofs.EntriesLemmas.{keys-cons, lookup-without, lookup-promoted, promoted-absent, promoted-found, IsSound-without, IsSound-promoted}
-use Rattle.key_shard.specs.declared.steps.Stands.{Stands}
+use Rattle.key_shard.specs.declared.steps.Blocker.{Blocker}
 use Rattle.key_shard.specs.declared.steps.Ended.{Ended}
 use Rattle.key_shard.specs.declared.steps.Ended.TheVariants as ended
 use Rattle.key_shard.specs.declared.steps.Step.{Step}
@@ -186,7 +186,7 @@ order-less {list = list} h key =
     keys-without_key key list ∙ ap (filter (λ other. not (same_key key other))) h.in_order
 
 pub Ties-again : (terms : Terms) (past : List Step) (list : List Item) (table : List Lease) (next : ℕ) (key : QKey) (sid : Sid) (floor now : ℕ)
-    (stands : Stands) → Answers terms past (Again key sid floor now stands)
+    (stands : Blocker) → Answers terms past (Again key sid floor now stands)
     → Ties terms past list table next → Ties terms (Again key sid floor now stands ∷ past) (without key list) table next
 Ties-again terms past list table next key sid floor now stands a h = record {
   entries = entries-less h key;

@@ -11,8 +11,8 @@ use Rattle.lease_table.specs.declared.records.Mode.{Mode}
 use Rattle.lease_table.specs.declared.records.Mode.TheVariants as modes
 use Rattle.lease_table.specs.declared.records.Quar.{Quar}
 use Rattle.lease_table.specs.Leases.{way_of, is_current, first, others_in, raise_in}
-use Rattle.key_shard.specs.declared.steps.Stands.{Stands}
-use Rattle.key_shard.specs.declared.steps.Stands.TheVariants.{I, Q}
+use Rattle.key_shard.specs.declared.steps.Blocker.{Blocker}
+use Rattle.key_shard.specs.declared.steps.Blocker.TheVariants.{I, Q}
 use Rattle.key_shard.specs.declared.steps.Ended.{Ended}
 use Rattle.key_shard.specs.declared.steps.Ended.TheVariants as ended
 use Rattle.key_shard.specs.declared.steps.Step.{Step}
@@ -23,7 +23,7 @@ use Rattle.key_shard.specs.Permit.{Permit}
 use Rattle.key_shard.specs.Past.{Terms, standing, recorded, own_of, seen_by, holder_of, quar_of, entry, evicts, next_token, deadline_at, grants}
 
 -- What is told of the lease in the way: a quarantine where one stands.
-abbrev pub stands_of : List Quar → Stands
+abbrev pub stands_of : List Quar → Blocker
 stands_of [] = I
 stands_of (quar ∷ quars) = Q
 

@@ -69,6 +69,6 @@ ShowsRenewal (Gone key sid token) answer = answer ≡ renewal.Gone
 ShowsRenewal step answer = ⊥
 
 -- The answer to a sweep: Released where its step ends a quarantine, for which no key makes room, and else Gone.
-abbrev pub sweep_told : Option Step → Rel
-sweep_told (Some step) = rel.Released None
-sweep_told None = rel.Gone
+abbrev pub sweep_answer : Option Step → Rel
+sweep_answer (Some step) = rel.Released None
+sweep_answer None = rel.Gone

@@ -10,7 +10,7 @@ ghost use Rattle.case_tables.specs.declared.grids.Verdict.TheVariants as verdict
 use crate::bodies::Body;
 use crate::lookups::Look;
 use crate::replies::{Got, ShardFault};
-use crate::steps::{Stands, Step};
+use crate::steps::{Blocker, Step};
 use rows_model::{Memory, QKey, Sid, Value};
 
 impl Body {
@@ -34,9 +34,9 @@ impl Body {
             Look::Own => Ok(self.own(key, who)?),
             Look::Found => {
                 let (value, stamp) = found.unwrap();
-                let told = value.copy()?;
+                let copy = value.copy()?;
                 let value = value.copy()?;
-                Ok(self.hit(key, who, floor, value, stamp, told)?)
+                Ok(self.hit(key, who, floor, value, stamp, copy)?)
             }
             Look::Waits(standing) => Ok(self.again(key, who, floor, now, standing)?),
             Look::Free => self.lease(key, who, floor, now),
@@ -62,9 +62,9 @@ impl Body {
         match self.look(&key, who, floor, 0, found) {
             Look::Found => {
                 let (value, stamp) = found.unwrap();
-                let told = value.copy()?;
+                let copy = value.copy()?;
                 let value = value.copy()?;
-                Ok(Some(self.hit(key, who, floor, value, stamp, told)?))
+                Ok(Some(self.hit(key, who, floor, value, stamp, copy)?))
             }
             Look::Own | Look::Waits(_) | Look::Free => Ok(None),
         }
@@ -91,13 +91,13 @@ impl Body {
         floor: u64,
         value: Value,
         stamp: u64,
-        told: Value,
+        answer: Value,
     ) -> Result<Got, Memory>
         requires kept { IsKept self.old }
         requires found { entry key (steps_of self.old) ≡ Some (value, stamp) }
         requires answers { Answers (terms_of self.old) (steps_of self.old)
             (Step.Hit key who floor value stamp) }
-        requires told { told ≡ value }
+        requires told { answer ≡ value }
         ensures kept { IsKept self.new }
         ensures step { OnOk result (shown self.new ≡ stepped (rolled (shown self.old))
             (Step.Hit key who floor value stamp)) }
@@ -116,7 +116,10 @@ impl Body {
                 stamp,
             },
         );
-        Ok(Got::Hit { value: told, stamp })
+        Ok(Got::Hit {
+            value: answer,
+            stamp,
+        })
     }
 
     /// Answers that a lease stands in the way, and drops the entry of the key.
@@ -126,7 +129,7 @@ impl Body {
         who: Sid,
         floor: u64,
         now: u64,
-        standing: Stands,
+        standing: Blocker,
     ) -> Result<Got, Memory>
         requires kept { IsKept self.old }
         requires answers { Answers (terms_of self.old) (steps_of self.old)

@@ -5,7 +5,7 @@ pub use bases::Base;
 pub use grants::Grant;
 pub use replies::{Back, Got, How, QAnswer, Raising, Rel, Renewal, SetAnswer, ShardFault};
 pub use shards::Shard;
-pub use steps::{Ended, Stands, Step};
+pub use steps::{Blocker, Ended, Step};
 
 pub mod bases;
 mod bodies;

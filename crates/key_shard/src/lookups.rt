@@ -3,7 +3,7 @@ ghost use Rattle.entry_table.specs.Entries.{lookup};
 ghost use Rattle.key_shard.specs.Kept.{IsKept, IsLook, is_fresh, steps_of, terms_of};
 
 use crate::bodies::Body;
-use crate::steps::Stands;
+use crate::steps::Blocker;
 use rows_model::{QKey, Sid, Value};
 
 /// The first row of the grid where the asker holds a quarantine.
@@ -17,7 +17,7 @@ pub enum Look {
     /// An entry with a stamp of at least the floor.
     Found,
     /// No such entry, and a lease that stands in the way.
-    Waits(Stands),
+    Waits(Blocker),
     /// No such entry, and no lease.
     Free,
 }
@@ -56,8 +56,8 @@ impl Body {
         }
         match row {
             0 => Look::Free,
-            1 => Look::Waits(Stands::I),
-            2..=4 => Look::Waits(Stands::Q),
+            1 => Look::Waits(Blocker::I),
+            2..=4 => Look::Waits(Blocker::Q),
             _ => unreachable!(),
         }
     }

@@ -157,7 +157,7 @@ impl Body {
         ensures kept { IsKept self.new }
         ensures step { OnOk result (shown self.new ≡ stepped (shown self.old)
             (Step.Gone grant.now.key grant.now.sid grant.now.token)) }
-        ensures gone { IfOk result (λ told. told ≡ Renewal.Gone) }
+        ensures gone { IfOk result (λ known. known ≡ Renewal.Gone) }
         ensures err { OnErr result (shown self.new ≡ shown self.old) }
     {
         self.note_also(Step::Gone {
@@ -180,7 +180,7 @@ impl Body {
         ensures step { OnOk result (shown self.new ≡ stepped (shown self.old)
             (Step.Renewed grant.now.key grant.now.sid grant.now.token now
             (deadline_at (terms_of self.old) now))) }
-        ensures renewed { IfOk result (λ told. told
+        ensures renewed { IfOk result (λ answer. answer
             ≡ Renewal.Renewed (deadline_at (terms_of self.old) now)) }
         ensures err { OnErr result (shown self.new ≡ shown self.old) }
     {

@@ -1,5 +1,5 @@
 use crate::grants::Grant;
-use crate::steps::Stands;
+use crate::steps::Blocker;
 use lease_table::Mode;
 use rows_model::{Memory, QKey, Sid, Value};
 
@@ -11,7 +11,7 @@ pub enum Got {
     /// The token of an I lease: the asker may ask the store and set the key under it.
     Lease { token: u64 },
     /// A lease stands in the way: try again.
-    Again { standing: Stands },
+    Again { standing: Blocker },
     /// The asker has quarantined the key itself.
     Own,
 }

@@ -5,7 +5,7 @@ ghost use Rattle.key_shard.specs.Dues.{first_due};
 ghost use Rattle.key_shard.specs.Answers.{get_step, set_step, quarantine_step, release_step, replace_step, sweep_step, raise_step, renew_step, FitsMode, FitsShift, IsAtHome, Legal};
 ghost use Rattle.entry_table.specs.Entries.{keys, lookup};
 ghost use Rattle.key_shard.specs.Past.{entry, order, quar_of, standing};
-ghost use Rattle.key_shard.specs.Replies.{ShowsGot, ShowsSet, ShowsQuarantine, ShowsRaise, ShowsRelease, ShowsRenewal, sweep_told};
+ghost use Rattle.key_shard.specs.Replies.{ShowsGot, ShowsSet, ShowsQuarantine, ShowsRaise, ShowsRelease, ShowsRenewal, sweep_answer};
 ghost use Rattle.key_shard.specs.Base.{IsBase, IsRolled, LegalFrom};
 ghost use Rattle.key_shard.specs.Histories.{is_due};
 ghost use Rattle.key_shard.specs.Shards.{kept_of, past_of, is_out, after_raise, stepped, rolled, returned, swept, refusal, Refuses};
@@ -420,7 +420,7 @@ impl Shard {
     pub fn sweep_drop(&mut self, key: QKey, token: u64) -> Rel
         requires { IsAtHome self.old.terms key }
         ensures step { self.new ≡ swept self.old (sweep_step (past_of self.old) key token) }
-        ensures told { result ≡ sweep_told (sweep_step (past_of self.old) key token) }
+        ensures told { result ≡ sweep_answer (sweep_step (past_of self.old) key token) }
         ensures ended { quar_of key token (past_of self.new) ≡ None }
         ensures dropped { result ≢ Rel.Gone → entry key (past_of self.new) ≡ None }
     {

@@ -3,7 +3,7 @@ use rows_model::{QKey, Sid, Value};
 
 /// What kind of lease stands in the way of a request.
 #[derive(Clone, Copy, Debug, PartialEq, Eq)]
-pub enum Stands {
+pub enum Blocker {
     /// An I lease that is not past its deadline: a reader that missed is asking the store.
     I,
     /// A Q lease: a writer has quarantined the key.
@@ -56,7 +56,7 @@ pub enum Step {
         sid: Sid,
         floor: u64,
         now: u64,
-        standing: Stands,
+        standing: Blocker,
     },
     /// A get of a key that its session has quarantined.
     Own {

@@ -4,7 +4,7 @@ ghost use Rattle.key_shard.specs.Answers.{IsAtHome, sweep_step};
 ghost use Rattle.key_shard.specs.Dues.{first_due};
 ghost use Rattle.key_shard.specs.Kept.{IsKept, shown, steps_of, terms_of};
 ghost use Rattle.key_shard.specs.Past.{standing};
-ghost use Rattle.key_shard.specs.Replies.{sweep_told};
+ghost use Rattle.key_shard.specs.Replies.{sweep_answer};
 ghost use Rattle.key_shard.specs.Shards.{swept};
 
 use crate::bodies::Body;
@@ -52,7 +52,7 @@ impl Body {
         ensures kept { IsKept self.new }
         ensures step { shown self.new
             ≡ swept (shown self.old) (sweep_step (steps_of self.old) key token) }
-        ensures told { result ≡ sweep_told (sweep_step (steps_of self.old) key token) }
+        ensures told { result ≡ sweep_answer (sweep_step (steps_of self.old) key token) }
     {
         let Some(quar) = self.leases.end_q(&key, token) else {
             return Rel::Gone;

@@ -14,7 +14,7 @@ use Rattle.lease_table.specs.declared.index.Index.{Index}
 use Rattle.lease_table.specs.Leases.{quars, reads, recorded, first, way_of, holding, has_token, is_current, raise_in, raised, renewed, MayStand}
 use Rattle.lease_table.specs.Leases.{Leaves}
 use Rattle.lease_table.specs.Index.{is_listed, ListsEach, IsSound, KeepsOthers}
-use Rattle.lease_table.specs.Stands.{records, leases_on, quars_of, reads_of, stands_in, IsKept, PutsOn}
+use Rattle.lease_table.specs.Standing.{records, leases_on, quars_of, reads_of, stands_in, IsKept, PutsOn}
 use Rattle.lease_table.proofs.MapLemmas.{records-at}
 use Rattle.lease_table.proofs.VerdictLemmas.{read-given, quar-given, raise-alone}
 use Rattle.lease_table.proofs.ListedLemmas.{ListsOn-more, ListsOn-less, ListsOn-raised, ListsOn-renewed, ListsOn-others, ListsEach-puts}

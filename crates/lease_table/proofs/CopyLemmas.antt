@@ -10,7 +10,7 @@ use Rattle.lease_table.specs.declared.records.KeyLeases.{KeyLeases}
 use Rattle.lease_table.specs.declared.records.KeyLeases.TheVariants.{Read, Quarantines}
 use Rattle.lease_table.specs.declared.index.Index.{Index}
 use Rattle.lease_table.specs.contracts.records.KeyLeasesClone.TheImpl.{is_clone-value}
-use Rattle.lease_table.specs.Stands.{key_cmp, records, records_on, read_lease, quar_lease, is_any, has_any, IsKept, SameLeases, Stays, stands_in}
+use Rattle.lease_table.specs.Standing.{key_cmp, records, records_on, read_lease, quar_lease, is_any, has_any, IsKept, SameLeases, Stays, stands_in}
 use Rattle.lease_table.specs.Index.{IsSound}
 use Rattle.lease_table.proofs.IndexLemmas.{KeepsEach-same, ListsEach-keeps}
 use Rattle.lease_table.proofs.TableLemmas.{IsKept-stays, IsKept-index}

@@ -49,13 +49,13 @@ Any-from_find P p (y ∷ ys) x found holds =
         (suc later.0, later.1, omega (arith, later.2), later.3, later.4)
 
 -- a quarantine that is due stands and is told so
-pub due-told : (now : ℕ) (standing : QKey → List Quar) (key : QKey) (token : ℕ) (quar : Quar) → find (has_token token) (standing key) ≡ Some quar
+pub due-found : (now : ℕ) (standing : QKey → List Quar) (key : QKey) (token : ℕ) (quar : Quar) → find (has_token token) (standing key) ≡ Some quar
     → quar.deadline ≤ now → StandsDue now standing (record { key = key; sid = quar.sid; token = token })
-due-told now standing key token quar found due =
+due-found now standing key token quar found due =
     let its : quar.token ≡ token = eqb-true quar.token token (find-passes (has_token token) (standing key) quar found) in
-    let told : due_as key quar ≡ record { key = key; sid = quar.sid; token = token } = λ i. record { key = key; sid = quar.sid; token = its i } in
+    let same : due_as key quar ≡ record { key = key; sid = quar.sid; token = token } = λ i. record { key = key; sid = quar.sid; token = its i } in
     Any-from_find (λ q. (q.deadline ≤ now) × (◌≡◌ {A = Due} (record { key = key; sid = quar.sid; token = token }) (due_as key q)))
-    (has_token token) (standing key) quar found (due, sym told)
+    (has_token token) (standing key) quar found (due, sym same)
 
 -- ---- where the deadlines of all terms lie ahead, what isn't found does too
 

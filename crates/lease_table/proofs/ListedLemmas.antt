@@ -18,7 +18,7 @@ use Rattle.lease_table.specs.declared.records.KeyLeases.{KeyLeases}
 use Rattle.lease_table.specs.declared.index.Index.{Index}
 use Rattle.lease_table.specs.Leases.{has_token, raised, renewed}
 use Rattle.lease_table.specs.Index.{is_same, is_listed, ListsOn, ListsEach, KeepsOthers}
-use Rattle.lease_table.specs.Stands.{quars_of, stands_in, PutsOn}
+use Rattle.lease_table.specs.Standing.{quars_of, stands_in, PutsOn}
 use Rattle.lease_table.proofs.ListLemmas.{find-cons_true, find-cons_false, find-passes, find-no, find-filter, find-map}
 
 -- ---- on one key

@@ -17,7 +17,7 @@ use Rattle.lease_table.specs.declared.records.Lease.{Lease}
 use Rattle.lease_table.specs.declared.records.KeyLeases.{KeyLeases}
 use Rattle.lease_table.specs.declared.records.KeyLeases.TheVariants.{Read, Quarantines}
 use Rattle.lease_table.specs.Leases.{quars, reads}
-use Rattle.lease_table.specs.Stands.{key_cmp, quar_lease, records_on, records, leases_on, quars_of, reads_of}
+use Rattle.lease_table.specs.Standing.{key_cmp, quar_lease, records_on, records, leases_on, quars_of, reads_of}
 use Rattle.lease_table.proofs.KeyLemmas.{is_at-key, key_equivalence, same_key-left}
 
 -- ---- one key's records

@@ -17,7 +17,7 @@ use Rattle.lease_table.specs.declared.index.Term.{Term}
 use Rattle.lease_table.specs.declared.index.Found.{Found}
 use Rattle.lease_table.specs.Leases.{first}
 use Rattle.lease_table.specs.Expiry.{key_before}
-use Rattle.lease_table.specs.Stands.{key_cmp}
+use Rattle.lease_table.specs.Standing.{key_cmp}
 use Rattle.lease_table.specs.Index.{term_cmp, found_cmp, later_back, found_back, found_before}
 use Rattle.lease_table.proofs.KeyLemmas.{key_cmp-rank, is_at-key}
 

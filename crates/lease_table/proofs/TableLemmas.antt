@@ -17,8 +17,8 @@ use Rattle.lease_table.specs.declared.index.Index.{Index}
 use Rattle.lease_table.specs.Leases.{quars, reads, first, quar_on, read_on, has_token, raised, renewed, Leaves, IsTable, MayStand}
 use Rattle.lease_table.specs.Leases.{StandBeside}
 use Rattle.lease_table.specs.Index.{ListsEach, IsSound}
-use Rattle.lease_table.specs.Stands.{key_cmp, records, leases_on, quars_of, reads_of, stands_in, has_any, NoneEmpty, IsKept, PutsOn, SameLeases}
-use Rattle.lease_table.specs.Stands.{Stays}
+use Rattle.lease_table.specs.Standing.{key_cmp, records, leases_on, quars_of, reads_of, stands_in, has_any, NoneEmpty, IsKept, PutsOn, SameLeases}
+use Rattle.lease_table.specs.Standing.{Stays}
 use Rattle.lease_table.proofs.KeyLemmas.{same_key-left}
 use Rattle.lease_table.proofs.ListLemmas.{filter_map-same, length-filter-le, AllPairs-map}
 use Rattle.lease_table.proofs.MapLemmas.{records-at, records-set_value, leases_on-same_key}

@@ -1,6 +1,6 @@
 pub mod Expiry
 pub mod Index
 pub mod Leases
-pub mod Stands
+pub mod Standing
 pub use Rattle.rows_model.specs.Key
 pub use Rattle.case_tables.specs.Compatibility

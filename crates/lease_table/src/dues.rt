@@ -2,7 +2,7 @@ ghost use Rattle.std.specs.Prelude.{◌≡◌, ◌<◌, Some, AllPairs, IfSome, 
 ghost use Rattle.std.specs.BinaryHeap.{heap_items, heap_len};
 ghost use Rattle.rows_model.specs.declared.keys.QKey.{QKey};
 ghost use Rattle.lease_table.specs.Leases.{first, StandBeside};
-ghost use Rattle.lease_table.specs.Stands.{stands_in};
+ghost use Rattle.lease_table.specs.Standing.{stands_in};
 ghost use Rattle.lease_table.specs.Index.{ListsEach, IsSound, AllAhead};
 ghost use Rattle.lease_table.specs.Expiry.{StandsDue, NoneDue, NoneDueBefore};
 

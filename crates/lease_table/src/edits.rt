@@ -1,6 +1,6 @@
 ghost use Rattle.std.specs.Prelude.{◌≡◌, [], ◌∷◌, ◌++◌, Some, OnOk, OnErr, IfOk, IfSome, IsTrue, filter, map, not};
 ghost use Rattle.lease_table.specs.Leases.{has_token};
-ghost use Rattle.lease_table.specs.Stands.{quars_of, reads_of, leases_on, has_any, changed, PutsOn, Stays, SameLeases};
+ghost use Rattle.lease_table.specs.Standing.{quars_of, reads_of, leases_on, has_any, changed, PutsOn, Stays, SameLeases};
 
 use crate::records::{KeyLeases, LeaseMap, Mode, Quar, ReadLease};
 use rows_model::{Memory, QKey};

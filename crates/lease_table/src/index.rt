@@ -1,7 +1,7 @@
 ghost use Rattle.std.specs.Prelude.{◌≡◌, ◌+◌, ◌<◌, ℕ, [], ◌∷◌, Some, All, IfOk, IfSome, IfNone, OnOk, IsTrue, IsFalse, IsPermutation, not};
 ghost use Rattle.std.specs.BinaryHeap.{heap_items, heap_len};
 ghost use Rattle.lease_table.specs.Leases.{first};
-ghost use Rattle.lease_table.specs.Stands.{stands_in};
+ghost use Rattle.lease_table.specs.Standing.{stands_in};
 ghost use Rattle.lease_table.specs.Index.{term_of, is_same, is_listed, found_before, ListsEach, IsSound, HasRoom, KeepsEach, KeepsOthers, AllAhead};
 
 use crate::lookups::stands;

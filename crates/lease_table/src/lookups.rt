@@ -2,7 +2,7 @@ ghost use Rattle.std.specs.Prelude.{◌≡◌, ◌+◌, ◌<◌, [], not, find, 
 ghost use Rattle.std.specs.List.{list_any};
 ghost use Rattle.case_tables.specs.Compatibility.{verdict, row_of, others_row, way_number, is_invalidate, read, quarantine};
 ghost use Rattle.lease_table.specs.Leases.{first, own_in, holder_in, is_of, has_token, is_unexpired, is_current, way_of, holding_of, is_raisable, raise_in, StandBeside};
-ghost use Rattle.lease_table.specs.Stands.{leases_on, quars_of, reads_of, stands_in};
+ghost use Rattle.lease_table.specs.Standing.{leases_on, quars_of, reads_of, stands_in};
 
 use crate::records::{KeyLeases, LeaseMap, Mode, Quar, ReadLease};
 use case_tables::{Verdict, lease_grid};

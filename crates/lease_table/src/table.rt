@@ -27,7 +27,7 @@ pub struct Leases {
 impl Model for Leases {
     ghost use Rattle.std.specs.Prelude.{List};
     ghost use Rattle.lease_table.specs.declared.records.Lease.{Lease};
-    ghost use Rattle.lease_table.specs.Stands.{records, IsKept};
+    ghost use Rattle.lease_table.specs.Standing.{records, IsKept};
 
     ghost Value = { List Lease };
 

@@ -59,13 +59,13 @@ verb_told a b words h k = by (spelled a words h) (spelled b words k)
     by (inr s) (inr t) = one_verb a b words s t
 
 -- how many bytes words announce behind this verb
-abbrev pub told_bytes : Option LeaseVerb → List (List ℕ) → Option ℕ
-told_bytes (Some lease.IqSet) words = Some (number_from 0 (get_or words 4 []))
-told_bytes (Some lease.Sar) words = Some (number_from 0 (get_or words 4 []))
-told_bytes verb words = None
+abbrev pub announced_bytes : Option LeaseVerb → List (List ℕ) → Option ℕ
+announced_bytes (Some lease.IqSet) words = Some (number_from 0 (get_or words 4 []))
+announced_bytes (Some lease.Sar) words = Some (number_from 0 (get_or words 4 []))
+announced_bytes verb words = None
 
 bytes_of_set : (key : Option QKey) (flags exptime bytes token stamp : ℕ) (block : List ℕ) (words : List (List ℕ))
-    → AreWords (IqSet key flags exptime bytes token stamp block) words → Some bytes ≡ told_bytes (Some lease.IqSet) words
+    → AreWords (IqSet key flags exptime bytes token stamp block) words → Some bytes ≡ announced_bytes (Some lease.IqSet) words
 bytes_of_set key flags exptime bytes token stamp block [] h = absurd h
 bytes_of_set key flags exptime bytes token stamp block (v ∷ []) h = absurd h.1
 bytes_of_set key flags exptime bytes token stamp block (v ∷ a ∷ []) h = absurd h.1.1
@@ -74,7 +74,7 @@ bytes_of_set key flags exptime bytes token stamp block (v ∷ a ∷ b ∷ c ∷ 
 bytes_of_set key flags exptime bytes token stamp block (v ∷ a ∷ b ∷ c ∷ d ∷ words) h = ap (λ (n : ℕ). Some n) h.1.1.1.1.0.value
 
 bytes_of_sar : (key : Option QKey) (flags exptime bytes : ℕ) (sid : Sid) (block : List ℕ) (words : List (List ℕ))
-    → AreWords (Sar key flags exptime bytes sid block) words → Some bytes ≡ told_bytes (Some lease.Sar) words
+    → AreWords (Sar key flags exptime bytes sid block) words → Some bytes ≡ announced_bytes (Some lease.Sar) words
 bytes_of_sar key flags exptime bytes sid block [] h = absurd h
 bytes_of_sar key flags exptime bytes sid block (v ∷ []) h = absurd h.1
 bytes_of_sar key flags exptime bytes sid block (v ∷ a ∷ []) h = absurd h.1.1
@@ -83,15 +83,15 @@ bytes_of_sar key flags exptime bytes sid block (v ∷ a ∷ b ∷ c ∷ []) h = 
 bytes_of_sar key flags exptime bytes sid block (v ∷ a ∷ b ∷ c ∷ d ∷ words) h = ap (λ (n : ℕ). Some n) h.1.1.1.1.0.value
 
 -- a command announces what its words do
-bytes_told : (command : Command) (words : List (List ℕ)) → AreWords command words → announced command ≡ told_bytes (verb_of command) words
-bytes_told (IqSet key flags exptime bytes token stamp block) words h = bytes_of_set key flags exptime bytes token stamp block words h
-bytes_told (Sar key flags exptime bytes sid block) words h = bytes_of_sar key flags exptime bytes sid block words h
-bytes_told command words h = refl
+bytes_announced : (command : Command) (words : List (List ℕ)) → AreWords command words → announced command ≡ announced_bytes (verb_of command) words
+bytes_announced (IqSet key flags exptime bytes token stamp block) words h = bytes_of_set key flags exptime bytes token stamp block words h
+bytes_announced (Sar key flags exptime bytes sid block) words h = bytes_of_sar key flags exptime bytes sid block words h
+bytes_announced command words h = refl
 
 -- words announce one block
 pub announced_once : (a b : Command) (words : List (List ℕ)) → AreWords a words → AreWords b words → announced a ≡ announced b
 announced_once a b words h k =
-    bytes_told a words h ∙ (ap (λ (v : Option LeaseVerb). told_bytes v words) (verb_told a b words h k) ∙ sym (bytes_told b words k))
+    bytes_announced a words h ∙ (ap (λ (v : Option LeaseVerb). announced_bytes v words) (verb_told a b words h k) ∙ sym (bytes_announced b words k))
 
 -- words leave the block open
 pub any_block : (front : Head) (block : List ℕ) (words : List (List ℕ)) → AreWords (with_block front []) words → AreWords (with_block front block) words

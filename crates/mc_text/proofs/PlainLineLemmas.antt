@@ -158,7 +158,7 @@ plain_forms (word ∷ words) all =
     All-cons (λ (other : List ℕ). is_key other ≡ true) word words (All-head IsPlainKey word words all).form (plain_forms words (All-tail IsPlainKey word words all))
 
 pub no_keys_said : (make : List (List ℕ) → PlainCommand) (words : List (List ℕ)) → (1 ≤ length words → All (λ word. is_key word ≡ true) words → ⊥)
-    → (told : PlainSaid) → AreKeys make words told → ⊥
+    → (said : PlainSaid) → AreKeys make words said → ⊥
 no_keys_said make words none (said.Asks asked) h = none h.0 (plain_forms words h.1)
 no_keys_said make [] none said.QueryKey h = All-contains (λ (word : List ℕ). ⊥) [] h.1.0 (All-nil (λ (word : List ℕ). ⊥)) h.1.1
 no_keys_said make (word ∷ words) none said.QueryKey h = none (omega arith) h.0
@@ -169,19 +169,19 @@ pub counted_plain : (make : ℕ → List ℕ → PlainCommand) (words : List (Li
     → Some key ≡ cond counted.key.is_plain (Some counted.key.word.now) None
     → IsOnKey (make counted.by) (Then (λ word. IsNumber word counted.by) (λ rest. IsLast rest counted.noreply)) words (said.Asks (make counted.by key))
 counted_plain make words counted key h e =
-    record { key = counted.key; words_are = h; told_is = on_plain (make counted.by) counted.key.is_plain counted.key.word.now key e }
+    record { key = counted.key; words_are = h; said_is = on_plain (make counted.by) counted.key.is_plain counted.key.word.now key e }
 
 pub counted_query : (make : ℕ → List ℕ → PlainCommand) (words : List (List ℕ)) (counted : Counted) → IsCounted words counted
     → None ≡ cond counted.key.is_plain (Some counted.key.word.now) None
     → IsOnKey (make counted.by) (Then (λ word. IsNumber word counted.by) (λ rest. IsLast rest counted.noreply)) words said.QueryKey
 counted_query make words counted h e =
-    record { key = counted.key; words_are = h; told_is = on_query (make counted.by) counted.key.is_plain counted.key.word.now e }
+    record { key = counted.key; words_are = h; said_is = on_query (make counted.by) counted.key.is_plain counted.key.word.now e }
 
 -- what a line says that is a command alone
-pub whole_tells : (verb : PlainVerb) (words : List (List ℕ)) (read : Option (PlainSaid × Bool)) (told : PlainLine) → IfSome read (λ it. SayWhole verb words it.0 it.1)
-    → IfNone read (IsNoWhole verb words) → MatchOption read (told ≡ line.Bad) (λ it. told ≡ line.Whole it.0 it.1) → IsNoHead verb words → Tells verb words told
-whole_tells verb words None told some none is other = rw is (none, other)
-whole_tells verb words (Some it) told some none is other = rw is some
+pub whole_tells : (verb : PlainVerb) (words : List (List ℕ)) (read : Option (PlainSaid × Bool)) (its_line : PlainLine) → IfSome read (λ it. SayWhole verb words it.0 it.1)
+    → IfNone read (IsNoWhole verb words) → MatchOption read (its_line ≡ line.Bad) (λ it. its_line ≡ line.Whole it.0 it.1) → IsNoHead verb words → Tells verb words its_line
+whole_tells verb words None line some none is other = rw is (none, other)
+whole_tells verb words (Some it) line some none is other = rw is some
 
 pub no_incr_head : (words : List (List ℕ)) → IsNoHead verb.Incr words
 no_incr_head words head h = by head.storing h.0

@@ -25,14 +25,14 @@ pub record HasRead (words keys : List (List ℕ)) (are_plain : Bool) (rest : Lis
   pub read : List (List ℕ)
   pub words_are : words ≡ read ++ rest
   pub keys_are : All (λ word. is_key word ≡ true) read
-  pub told : AreRead read keys are_plain
+  pub are_read : AreRead read keys are_plain
 
 head_in : (word : List ℕ) (words : List (List ℕ)) → Contains (word ∷ words) word
 head_in word words = All-head (Contains (word ∷ words)) word words (All-contains_itself (word ∷ words))
 
 -- nothing is read
 pub none_read : (words : List (List ℕ)) → HasRead words [] true words
-none_read words = record { read = []; words_are = refl; keys_are = All-nil _; told = (refl, All-nil _) }
+none_read words = record { read = []; words_are = refl; keys_are = All-nil _; are_read = (refl, All-nil _) }
 
 -- the same words, one of them on the other side
 moved : (words read rest behind : List (List ℕ)) (word : List ℕ) → words ≡ read ++ rest → rest ≡ word ∷ behind → words ≡ (read ++ word ∷ []) ++ behind
@@ -48,12 +48,12 @@ plain_read words keys rest behind are_plain word h f plain = record {
   read = h.read ++ word ∷ [];
   words_are = moved words h.read rest behind word h.words_are f;
   keys_are = one_more (λ (w : List ℕ). is_key w ≡ true) h.read word h.keys_are plain.form;
-  told = by are_plain h.told;
+  are_read = by are_plain h.are_read;
 }
   where
     by : (b : Bool) → AreRead h.read keys b → AreRead (h.read ++ word ∷ []) (keys ++ word ∷ []) b
-    by true told = (ap (λ (ks : List (List ℕ)). ks ++ word ∷ []) told.0, one_more IsPlainKey h.read word told.1 plain)
-    by false told = (told.0, Contains-append_left h.read (word ∷ []) told.0 told.1, told.2)
+    by true read_so = (ap (λ (ks : List (List ℕ)). ks ++ word ∷ []) read_so.0, one_more IsPlainKey h.read word read_so.1 plain)
+    by false read_so = (read_so.0, Contains-append_left h.read (word ∷ []) read_so.0 read_so.1, read_so.2)
 
 -- a key of the cache is read
 pub query_read : (words keys rest behind : List (List ℕ)) (are_plain : Bool) (word : List ℕ) → HasRead words keys are_plain rest → rest ≡ word ∷ behind
@@ -62,7 +62,7 @@ query_read words keys rest behind are_plain word h f query = record {
   read = h.read ++ word ∷ [];
   words_are = moved words h.read rest behind word h.words_are f;
   keys_are = one_more (λ (w : List ℕ). is_key w ≡ true) h.read word h.keys_are query.form;
-  told = (word, Contains-append_right h.read (word ∷ []) word (head_in word []), query);
+  are_read = (word, Contains-append_right h.read (word ∷ []) word (head_in word []), query);
 }
 
 -- one of the words may not be a key
@@ -78,4 +78,4 @@ pub all_read : (words keys rest : List (List ℕ)) (are_plain : Bool) → HasRea
     → AreRead words keys are_plain × All (λ word. is_key word ≡ true) words
 all_read words keys rest are_plain h end =
     let e : words ≡ h.read = h.words_are ∙ ap (λ (ws : List (List ℕ)). h.read ++ ws) end ∙ append-nil h.read in
-    rw e (h.told, h.keys_are)
+    rw e (h.are_read, h.keys_are)

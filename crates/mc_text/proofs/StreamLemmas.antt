@@ -5,7 +5,7 @@ use Rattle.mc_text.specs.declared.commands.Command.{Command}
 use Rattle.mc_text.specs.Words.{words_in}
 use Rattle.mc_text.specs.Commands.{AreWords, announced, block_of}
 use Rattle.mc_text.specs.Streams.{EndsAt, IsLine, IsLong, IsBlock, block_size, IsCommand, AreBad, IsBadLine, Announces, Item, command}
-use Rattle.mc_text.specs.Streams.{bad_line, long_line, bad_block, big_block, Stands, IsOpen, AreFirst}
+use Rattle.mc_text.specs.Streams.{bad_line, long_line, bad_block, big_block, IsFirst, IsOpen, AreFirst}
 use Rattle.mc_text.specs.Laws.{StreamsTellItems}
 use Rattle.mc_text.proofs.OnceLemmas.{announced_once}
 use Rattle.mc_text.proofs.TellLemmas.{words_once}
@@ -61,7 +61,7 @@ announces_more stream more long bytes h = record {
 }
 
 -- what stands first stays first
-pub stands_more : (stream more : List ℕ) (item : Item) (taken : ℕ) → Stands stream item taken → Stands (stream ++ more) item taken
+pub stands_more : (stream more : List ℕ) (item : Item) (taken : ℕ) → IsFirst stream item taken → IsFirst (stream ++ more) item taken
 stands_more stream more (command said) taken h = record {
   long = h.long;
   line = line_more stream more h.long h.line;
@@ -104,7 +104,7 @@ pub block_fits : (stream : List ℕ) (behind : ℕ) (found : Option ℕ) (block 
 block_fits stream behind None block l h = omega arith
 block_fits stream behind (Some bytes) block l h = let inside = h.1.whole in omega arith
 
-pub stands_fit : (stream : List ℕ) (item : Item) (taken : ℕ) → Stands stream item taken → taken ≤ length stream
+pub stands_fit : (stream : List ℕ) (item : Item) (taken : ℕ) → IsFirst stream item taken → taken ≤ length stream
 stands_fit stream (command said) taken h =
     let inside = h.line.ends.whole in
     let fit = block_fits stream (h.long + 2) (announced said) (block_of said) (omega arith) h.block in
@@ -171,7 +171,7 @@ block_there stream a long bytes m h k =
     (there.0, subst (λ (n : ℕ). EndsAt stream (n + 2 + bytes)) line there.1)
 
 -- one item stands first
-stands_once : (stream : List ℕ) (a b : Item) (m n : ℕ) → Stands stream a m → Stands stream b n → (a ≡ b) × (m ≡ n)
+stands_once : (stream : List ℕ) (a b : Item) (m n : ℕ) → IsFirst stream a m → IsFirst stream b n → (a ≡ b) × (m ≡ n)
 stands_once stream (command a) (command b) m n h k =
     let same = command_once stream a b m n h k in (ap (λ (c : Command). command c) same.0, same.1)
 stands_once stream (command a) bad_line m n h k = absurd (command_not_bad stream a m n h k)

@@ -5,7 +5,7 @@ use Rattle.mc_text.specs.declared.verb_words.LeaseVerb.TheVariants as lease
 use Rattle.mc_text.specs.declared.verb_words.Verb.{Verb}
 use Rattle.mc_text.specs.declared.verb_words.Verb.TheVariants.{Lease}
 use Rattle.mc_text.specs.declared.verbs.Row.{Row}
-use Rattle.mc_text.specs.Verbs.{TableRow, text_of, told, IsRowOf, IsNoVerb}
+use Rattle.mc_text.specs.Verbs.{TableRow, text_of, row_of, IsRowOf, IsNoVerb}
 use Rattle.mc_text.proofs.VerbLemmas.{verb_once}
 
 -- some row, for places behind the last
@@ -18,17 +18,17 @@ no_word table word none row h = none row.which (sym h.verb_is)
 
 -- a table has no row with the word of a verb that none of its rows has
 pub no_verb : (rows : List Row) (word : List ℕ) (verb : Verb) → word ≡ text_of verb
-    → ((i : ℕ) (d : Row) → i < length rows → (slice_index_or rows i d).which ≡ verb → ⊥) → IsNoVerb (map told rows) word
+    → ((i : ℕ) (d : Row) → i < length rows → (slice_index_or rows i d).which ≡ verb → ⊥) → IsNoVerb (map row_of rows) word
 no_verb rows word verb w none row h =
     let (k, within, at) = h.listed in
-    let inside : k < length rows = omega (arith, length-map rows told) in
-    let kept = get_or-map told rows k some_row row inside in
+    let inside : k < length rows = omega (arith, length-map rows row_of) in
+    let kept = get_or-map row_of rows k some_row row inside in
     none k some_row inside (ap (λ (r : TableRow). r.which) (sym kept ∙ at) ∙ verb_once row.which verb (h.verb_is ∙ w))
 
 -- the row at a place stands in the table
 pub row_found : (rows : List Row) (i : ℕ) (word text : List ℕ) (verb : Verb) → i < length rows
     → (slice_index_or rows i some_row).which ≡ verb → text ≡ text_of verb → word ≡ text_of verb
-    → IsRowOf (map told rows) word (record {
+    → IsRowOf (map row_of rows) word (record {
       which = verb;
       word = text;
       fields = (slice_index_or rows i some_row).fields;
@@ -37,7 +37,7 @@ pub row_found : (rows : List Row) (i : ℕ) (word text : List ℕ) (verb : Verb)
     })
 row_found rows i word text verb below same t w =
     rw (t, ← same) (record {
-      listed = (i, omega (arith, length-map rows told), get_or-map told rows i some_row (told (slice_index_or rows i some_row)) below);
+      listed = (i, omega (arith, length-map rows row_of), get_or-map row_of rows i some_row (row_of (slice_index_or rows i some_row)) below);
       word_is = ap text_of same ∙ sym w;
       verb_is = ap text_of same ∙ sym w;
     })

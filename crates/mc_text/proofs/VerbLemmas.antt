@@ -18,7 +18,7 @@ use Rattle.mc_text.specs.declared.lines.Said.{Said}
 use Rattle.mc_text.specs.declared.lines.Said.TheVariants.{Whole, Headed, Bad}
 use Rattle.mc_text.specs.Commands.{verb_of, written, AreArgs, AreWords, AreUnknown}
 use Rattle.mc_text.specs.Parsing.{IsSaid, with_block}
-use Rattle.mc_text.specs.Telling.{Tells, TellsTxn, Told, SayTxn}
+use Rattle.mc_text.specs.Telling.{Tells, TellsTxn, WordsSay, SayTxn}
 
 -- the first five letters of a word, as one number
 abbrev pub letters : List ℕ → ℕ
@@ -176,7 +176,7 @@ unsays word verb w command words h = record { verb_is = same_verb (verb_of comma
 
 -- what a line says whose first word is a verb
 pub told_line : (words args : List (List ℕ)) (word : List ℕ) (verb : LeaseVerb) (said : Said)
-    → words ≡ word ∷ args → word ≡ lease_text verb → Tells verb args said → Told words said
+    → words ≡ word ∷ args → word ≡ lease_text verb → Tells verb args said → WordsSay words said
 told_line words args word verb (Whole command) e w h = (rw e (says command verb word args h.0.verb_is w h.0.args), h.1)
 told_line words args word verb (Headed head) e w h = rw e (says (with_block head []) verb word args h.verb_is w h.args)
 told_line words args word verb Bad e w h =
@@ -184,7 +184,7 @@ told_line words args word verb Bad e w h =
 
 pub line_told : (words args : List (List ℕ)) (word : List ℕ) (verb : LeaseVerb) (read : Result Said Memory)
     → words ≡ word ∷ args → word ≡ lease_text verb
-    → IfOk read (λ said. Tells verb args said) → IfOk read (λ said. Told words said)
+    → IfOk read (λ said. Tells verb args said) → IfOk read (λ said. WordsSay words said)
 line_told words args word verb (Ok said) e w h = told_line words args word verb said e w h
 line_told words args word verb (Err fault) e w h = h
 

@@ -3,7 +3,7 @@ use Rattle.std.specs.Prelude.{ℕ, ◌+◌, ◌-◌, ◌^◌, ◌≡◌, List, [
 use Rattle.mc_text.specs.declared.commands.Command.{Command}
 use Rattle.mc_text.specs.declared.faults.FrameFault.{FrameFault}
 use Rattle.mc_text.specs.declared.faults.FrameFault.TheVariants.{BadLine, LongLine, BadBlock, BigBlock, Memory}
-use Rattle.mc_text.specs.Streams.{Item, command, bad_line, long_line, bad_block, big_block, Stands, IsOpen, WantsMemory}
+use Rattle.mc_text.specs.Streams.{Item, command, bad_line, long_line, bad_block, big_block, IsFirst, IsOpen, WantsMemory}
 
 -- a framer: where in the stream the next command begins, stopping at 2^64-1, and the bytes that were fed from there on
 pub record Frames : Type 0 where
@@ -11,8 +11,8 @@ pub record Frames : Type 0 where
   pub rest : List ℕ
 
 -- no byte was fed yet
-abbrev pub begun : Frames
-begun = record { place = 0; rest = [] }
+abbrev pub unfed : Frames
+unfed = record { place = 0; rest = [] }
 
 -- one piece more was fed
 abbrev pub fed : Frames → List ℕ → Frames
@@ -25,7 +25,7 @@ past frames taken = record { place = min (frames.place + taken) (2 ^ 64 - 1); re
 -- this stands first among the bytes, and is taken
 pub record Takes (old : Frames) (item : Item) (new : Frames) : Type 0 where
   pub taken : ℕ
-  pub stands : Stands old.rest item taken
+  pub stands : IsFirst old.rest item taken
   pub goes_on : new ≡ past old taken
 
 -- what a fault says of the bytes: it stands first, at the place where they begin, and a bad

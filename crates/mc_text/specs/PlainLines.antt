@@ -72,25 +72,25 @@ AreKeys make words said.QueryKey = All (λ word. is_key word ≡ true) words × 
 AreKeys make words said.Exptime = ⊥
 
 -- one key, of which this is made if it is a plain one, and then others
-pub record IsOnKey (make : List ℕ → PlainCommand) (AreOthers : List (List ℕ) → Type 0) (words : List (List ℕ)) (told : PlainSaid) : Type 0 where
+pub record IsOnKey (make : List ℕ → PlainCommand) (AreOthers : List (List ℕ) → Type 0) (words : List (List ℕ)) (said : PlainSaid) : Type 0 where
   pub key : KeyWord
   pub words_are : Then (λ word. IsKeyOf word key) AreOthers words
-  pub told_is : told ≡ on_key key make
+  pub said_is : said ≡ on_key key make
 
 -- the words behind the verb of a command that is its line alone
 abbrev pub SayWhole : PlainVerb → List (List ℕ) → PlainSaid → Bool → Type 0
-SayWhole verb.Get words told noreply = AreKeys command.Get words told × (noreply ≡ false)
-SayWhole verb.Gets words told noreply = AreKeys command.Gets words told × (noreply ≡ false)
-SayWhole verb.Delete words told noreply = IsOnKey command.Delete (λ rest. IsLast rest noreply) words told
-SayWhole verb.Incr words told noreply =
-    (by : ℕ) × IsOnKey (λ key. command.Incr key by) (Then (λ word. IsNumber word by) (λ rest. IsLast rest noreply)) words told
-SayWhole verb.Decr words told noreply =
-    (by : ℕ) × IsOnKey (λ key. command.Decr key by) (Then (λ word. IsNumber word by) (λ rest. IsLast rest noreply)) words told
-SayWhole other words told noreply = ⊥
+SayWhole verb.Get words said noreply = AreKeys command.Get words said × (noreply ≡ false)
+SayWhole verb.Gets words said noreply = AreKeys command.Gets words said × (noreply ≡ false)
+SayWhole verb.Delete words said noreply = IsOnKey command.Delete (λ rest. IsLast rest noreply) words said
+SayWhole verb.Incr words said noreply =
+    (by : ℕ) × IsOnKey (λ key. command.Incr key by) (Then (λ word. IsNumber word by) (λ rest. IsLast rest noreply)) words said
+SayWhole verb.Decr words said noreply =
+    (by : ℕ) × IsOnKey (λ key. command.Decr key by) (Then (λ word. IsNumber word by) (λ rest. IsLast rest noreply)) words said
+SayWhole other words said noreply = ⊥
 
 -- they are those of no such command
 abbrev pub IsNoWhole : PlainVerb → List (List ℕ) → Type 0
-IsNoWhole verb words = (told : PlainSaid) (noreply : Bool) → SayWhole verb words told noreply → ⊥
+IsNoWhole verb words = (said : PlainSaid) (noreply : Bool) → SayWhole verb words said noreply → ⊥
 
 -- the key of a line with a block is told right
 abbrev pub HasKey : PlainLine → Type 0
@@ -99,6 +99,6 @@ HasKey other = ⊤
 
 -- what a line says
 abbrev pub Tells : PlainVerb → List (List ℕ) → PlainLine → Type 0
-Tells verb words (line.Whole told noreply) = SayWhole verb words told noreply
+Tells verb words (line.Whole said noreply) = SayWhole verb words said noreply
 Tells verb words (line.Headed head) = IsHead verb words head
 Tells verb words line.Bad = IsNoWhole verb words × IsNoHead verb words

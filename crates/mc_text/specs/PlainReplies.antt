@@ -4,7 +4,7 @@ use Rattle.std.specs.List.{flat_map}
 use Rattle.mc_text.specs.Replies.{line, client_error, server_error}
 use Rattle.mc_text.specs.declared.plain_replies.Found.{Found}
 use Rattle.mc_text.specs.declared.plain_replies.PlainReply.{PlainReply}
-use Rattle.mc_text.specs.declared.plain_replies.PlainReply.TheVariants as reply
+use Rattle.mc_text.specs.declared.plain_replies.PlainReply.TheVariants as PlainReply
 
 -- the front of the first line of an item
 abbrev pub item_head : Found → List ℕ
@@ -24,17 +24,17 @@ items_text is_told found = flat_map (item_text is_told) found ++ line (codes "EN
 
 -- the text of a reply
 unfoldable pub plain_text : PlainReply → List ℕ
-plain_text (reply.Values found) = items_text false found
-plain_text (reply.Uniques found) = items_text true found
-plain_text reply.Stored = line (codes "STORED")
-plain_text reply.NotStored = line (codes "NOT_STORED")
-plain_text reply.Exists = line (codes "EXISTS")
-plain_text reply.NotFound = line (codes "NOT_FOUND")
-plain_text reply.Deleted = line (codes "DELETED")
-plain_text (reply.Number number) = line (decimal number)
-plain_text reply.QueryKey = client_error (codes "query key")
-plain_text reply.Exptime = client_error (codes "exptime")
-plain_text reply.NotNumber = client_error (codes "not a number")
-plain_text reply.Spent = server_error (codes "spent")
-plain_text reply.Full = server_error (codes "full")
-plain_text reply.Memory = server_error (codes "memory")
+plain_text (PlainReply.Values found) = items_text false found
+plain_text (PlainReply.Uniques found) = items_text true found
+plain_text PlainReply.Stored = line (codes "STORED")
+plain_text PlainReply.NotStored = line (codes "NOT_STORED")
+plain_text PlainReply.Exists = line (codes "EXISTS")
+plain_text PlainReply.NotFound = line (codes "NOT_FOUND")
+plain_text PlainReply.Deleted = line (codes "DELETED")
+plain_text (PlainReply.Number number) = line (decimal number)
+plain_text PlainReply.QueryKey = client_error (codes "query key")
+plain_text PlainReply.Exptime = client_error (codes "exptime")
+plain_text PlainReply.NotNumber = client_error (codes "not a number")
+plain_text PlainReply.Spent = server_error (codes "spent")
+plain_text PlainReply.Full = server_error (codes "full")
+plain_text PlainReply.Memory = server_error (codes "memory")

@@ -5,7 +5,7 @@ use Rattle.lease_table.specs.declared.records.Mode.TheVariants.{Invalidate, Refr
 use Rattle.rows_model.specs.declared.keys.QKey.{QKey}
 use Rattle.rows_model.specs.Key.{key_text}
 use Rattle.mc_text.specs.declared.replies.LineReply.{LineReply}
-use Rattle.mc_text.specs.declared.replies.LineReply.TheVariants as reply
+use Rattle.mc_text.specs.declared.replies.LineReply.TheVariants as LineReply
 
 -- the word of a mode
 abbrev pub mode_word : Mode → List ℕ
@@ -49,47 +49,47 @@ server_error text = line (codes "SERVER_ERROR " ++ text)
 
 -- the text of a reply
 unfoldable pub text_of : LineReply → List ℕ
-text_of (reply.Session sid) = line (codes "SESSION " ++ decimal sid.number)
-text_of (reply.Stamped key stamp value) = stamped_text key stamp value
-text_of (reply.Unstamped key value) = value_text key value []
-text_of (reply.Lease token) = line (codes "LEASE " ++ decimal token)
-text_of reply.AgainI = line (codes "AGAIN I")
-text_of reply.AgainQ = line (codes "AGAIN Q")
-text_of reply.Own = line (codes "OWN")
-text_of (reply.Rejected index) = line (codes "REJECTED " ++ decimal index)
-text_of reply.Stored = line (codes "STORED")
-text_of reply.NotStored = line (codes "NOT_STORED")
-text_of (reply.Granted token) = line (codes "GRANTED " ++ decimal token)
-text_of (reply.GrantedStamped token key stamp value) =
+text_of (LineReply.Session sid) = line (codes "SESSION " ++ decimal sid.number)
+text_of (LineReply.Stamped key stamp value) = stamped_text key stamp value
+text_of (LineReply.Unstamped key value) = value_text key value []
+text_of (LineReply.Lease token) = line (codes "LEASE " ++ decimal token)
+text_of LineReply.AgainI = line (codes "AGAIN I")
+text_of LineReply.AgainQ = line (codes "AGAIN Q")
+text_of LineReply.Own = line (codes "OWN")
+text_of (LineReply.Rejected index) = line (codes "REJECTED " ++ decimal index)
+text_of LineReply.Stored = line (codes "STORED")
+text_of LineReply.NotStored = line (codes "NOT_STORED")
+text_of (LineReply.Granted token) = line (codes "GRANTED " ++ decimal token)
+text_of (LineReply.GrantedStamped token key stamp value) =
     line (codes "GRANTED " ++ decimal token) ++ stamped_text key stamp value
-text_of (reply.GrantedNone token) = line (codes "GRANTED " ++ decimal token) ++ line (codes "END")
-text_of reply.Held = line (codes "HELD")
-text_of (reply.Refused holder mode) =
+text_of (LineReply.GrantedNone token) = line (codes "GRANTED " ++ decimal token) ++ line (codes "END")
+text_of LineReply.Held = line (codes "HELD")
+text_of (LineReply.Refused holder mode) =
     line (codes "REFUSED " ++ decimal holder.number ++ codes " " ++ mode_word mode)
-text_of (reply.Committed commit) = line (codes "COMMITTED " ++ decimal commit)
-text_of reply.Ended = line (codes "ENDED")
-text_of (reply.Uncovered key) = line (codes "UNCOVERED " ++ key_text key)
-text_of reply.Deleted = line (codes "DELETED")
-text_of reply.NotFound = line (codes "NOT_FOUND")
-text_of (reply.Released count) = line (codes "RELEASED " ++ decimal count)
-text_of reply.Error = line (codes "ERROR")
-text_of reply.BadLine = client_error (codes "bad line")
-text_of reply.LongLine = client_error (codes "long line")
-text_of reply.BadBlock = client_error (codes "bad block")
-text_of reply.BigBlock = client_error (codes "big block")
-text_of reply.SessionBusy = client_error (codes "session busy")
-text_of reply.NotQueryKey = client_error (codes "not a query key")
-text_of reply.Flags = client_error (codes "flags")
-text_of reply.Exptime = client_error (codes "exptime")
-text_of reply.NotYours = client_error (codes "not yours")
-text_of reply.ReadSession = client_error (codes "read session")
-text_of reply.AlreadyCommitted = client_error (codes "committed")
-text_of reply.TooMany = client_error (codes "too many")
-text_of reply.NotCount = client_error (codes "not count")
-text_of reply.NotCommitted = client_error (codes "not committed")
-text_of reply.NoGrant = client_error (codes "no grant")
-text_of reply.WrongMode = client_error (codes "mode")
-text_of reply.Spent = server_error (codes "spent")
-text_of reply.Full = server_error (codes "full")
-text_of reply.Store = server_error (codes "store")
-text_of reply.Memory = server_error (codes "memory")
+text_of (LineReply.Committed commit) = line (codes "COMMITTED " ++ decimal commit)
+text_of LineReply.Ended = line (codes "ENDED")
+text_of (LineReply.Uncovered key) = line (codes "UNCOVERED " ++ key_text key)
+text_of LineReply.Deleted = line (codes "DELETED")
+text_of LineReply.NotFound = line (codes "NOT_FOUND")
+text_of (LineReply.Released count) = line (codes "RELEASED " ++ decimal count)
+text_of LineReply.Error = line (codes "ERROR")
+text_of LineReply.BadLine = client_error (codes "bad line")
+text_of LineReply.LongLine = client_error (codes "long line")
+text_of LineReply.BadBlock = client_error (codes "bad block")
+text_of LineReply.BigBlock = client_error (codes "big block")
+text_of LineReply.SessionBusy = client_error (codes "session busy")
+text_of LineReply.NotQueryKey = client_error (codes "not a query key")
+text_of LineReply.Flags = client_error (codes "flags")
+text_of LineReply.Exptime = client_error (codes "exptime")
+text_of LineReply.NotYours = client_error (codes "not yours")
+text_of LineReply.ReadSession = client_error (codes "read session")
+text_of LineReply.AlreadyCommitted = client_error (codes "committed")
+text_of LineReply.TooMany = client_error (codes "too many")
+text_of LineReply.NotCount = client_error (codes "not count")
+text_of LineReply.NotCommitted = client_error (codes "not committed")
+text_of LineReply.NoGrant = client_error (codes "no grant")
+text_of LineReply.WrongMode = client_error (codes "mode")
+text_of LineReply.Spent = server_error (codes "spent")
+text_of LineReply.Full = server_error (codes "full")
+text_of LineReply.Store = server_error (codes "store")
+text_of LineReply.Memory = server_error (codes "memory")

@@ -97,19 +97,19 @@ pub record WantsMemory (stream : List ℕ) : Type 0 where
   pub body : has_body said ≡ true
 
 -- this stands first in the stream, and takes so many bytes; the faults that last take none
-abbrev pub Stands : List ℕ → Item → ℕ → Type 0
-Stands stream (command said) taken = IsCommand stream said taken
-Stands stream bad_line taken = IsBadLine stream taken
-Stands stream long_line taken = IsLong stream × (taken ≡ 0)
-Stands stream bad_block taken = HasBadBlock stream × (taken ≡ 0)
-Stands stream big_block taken = HasBigBlock stream × (taken ≡ 0)
+abbrev pub IsFirst : List ℕ → Item → ℕ → Type 0
+IsFirst stream (command said) taken = IsCommand stream said taken
+IsFirst stream bad_line taken = IsBadLine stream taken
+IsFirst stream long_line taken = IsLong stream × (taken ≡ 0)
+IsFirst stream bad_block taken = HasBadBlock stream × (taken ≡ 0)
+IsFirst stream big_block taken = HasBigBlock stream × (taken ≡ 0)
 
 -- neither a whole command nor a fault stands first: more bytes are needed to tell
 abbrev pub IsOpen : List ℕ → Type 0
-IsOpen stream = (item : Item) (taken : ℕ) → Stands stream item taken → ⊥
+IsOpen stream = (item : Item) (taken : ℕ) → IsFirst stream item taken → ⊥
 
 -- these items stand first, one behind the other, and take so many bytes
 abbrev pub AreFirst : List ℕ → List Item → ℕ → Type 0
 AreFirst stream [] taken = taken ≡ 0
 AreFirst stream (item ∷ items) taken =
-    (one : ℕ) × (others : ℕ) × Stands stream item one × AreFirst (drop one stream) items others × (taken ≡ one + others)
+    (one : ℕ) × (others : ℕ) × IsFirst stream item one × AreFirst (drop one stream) items others × (taken ≡ one + others)

@@ -7,7 +7,7 @@ use Rattle.mc_text.specs.declared.items.Front.{Front}
 use Rattle.mc_text.specs.declared.items.Front.TheVariants as front
 use Rattle.mc_text.specs.Commands.{AreWords, announced, has_txn}
 use Rattle.mc_text.specs.declared.commands.Command.{Command}
-use Rattle.mc_text.specs.Streams.{AreBad, EndsAt, Stands, command, bad_line, long_line, bad_block, big_block, IsOpen}
+use Rattle.mc_text.specs.Streams.{AreBad, EndsAt, IsFirst, command, bad_line, long_line, bad_block, big_block, IsOpen}
 use Rattle.mc_text.specs.Parsing.{IsSaid, IsUnsaid, with_block}
 
 -- what the words behind a verb say
@@ -29,18 +29,18 @@ pub record SayTxn (words : List (List ℕ)) : Type 0 where
   pub txn : has_txn said ≡ true
 
 -- what the words of a line say
-abbrev pub Told : List (List ℕ) → Said → Type 0
-Told words (Whole said) = AreWords said words × (announced said ≡ None)
-Told words (Headed head) = AreWords (with_block head []) words
-Told words Bad = AreBad words
+abbrev pub WordsSay : List (List ℕ) → Said → Type 0
+WordsSay words (Whole said) = AreWords said words × (announced said ≡ None)
+WordsSay words (Headed head) = AreWords (with_block head []) words
+WordsSay words Bad = AreBad words
 
 -- what stands first in a stream
 abbrev pub IsFront : List ℕ → Front → Type 0
-IsFront stream (front.Command said taken) = Stands stream (command said) taken
-IsFront stream (front.BadLine taken) = Stands stream bad_line taken
-IsFront stream front.LongLine = Stands stream long_line 0
-IsFront stream front.BadBlock = Stands stream bad_block 0
-IsFront stream front.BigBlock = Stands stream big_block 0
+IsFront stream (front.Command said taken) = IsFirst stream (command said) taken
+IsFront stream (front.BadLine taken) = IsFirst stream bad_line taken
+IsFront stream front.LongLine = IsFirst stream long_line 0
+IsFront stream front.BadBlock = IsFirst stream bad_block 0
+IsFront stream front.BigBlock = IsFirst stream big_block 0
 IsFront stream front.Open = IsOpen stream
 
 -- no CR LF begins within the first bytes

@@ -48,8 +48,8 @@ text_of (Lease verb) = lease_text verb
 text_of (Plain verb) = plain_verbs.text_of verb
 
 -- a row that is kept, as contracts see it
-abbrev pub told : Row → TableRow
-told row = record { which = row.which; word = text_of row.which; fields = row.fields; block = row.block; number = row.number }
+abbrev pub row_of : Row → TableRow
+row_of row = record { which = row.which; word = text_of row.which; fields = row.fields; block = row.block; number = row.number }
 
 -- the row stands in the table, and this word is its verb
 pub record IsRowOf (table : List TableRow) (word : List ℕ) (row : TableRow) : Type 0 where

@@ -1,5 +1,5 @@
 ghost use Rattle.std.specs.Prelude.{◌≡◌, ◌≤◌, length, OnOk, OnErr};
-ghost use Rattle.mc_text.specs.Framing.{begun, fed, past, Answers};
+ghost use Rattle.mc_text.specs.Framing.{unfed, fed, past, Answers};
 
 use crate::commands::Command;
 use crate::faults::FrameFault;
@@ -37,7 +37,7 @@ impl Model for Framer {
 impl Framer {
     /// A framer that was fed nothing. It takes no memory.
     pub fn new(alloc: Global) -> Framer
-        ensures { result ≡ begun }
+        ensures { result ≡ unfed }
     {
         Framer {
             alloc,

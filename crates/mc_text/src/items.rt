@@ -6,7 +6,7 @@ ghost use Rattle.mc_text.specs.Verbs.{lease_text};
 ghost use Rattle.mc_text.specs.Commands.{AreWords};
 ghost use Rattle.mc_text.specs.Streams.{EndsAt, IsLine, WantsMemory};
 ghost use Rattle.mc_text.specs.Parsing.{with_block};
-ghost use Rattle.mc_text.specs.Telling.{Told, IsFront, IsEndless};
+ghost use Rattle.mc_text.specs.Telling.{WordsSay, IsFront, IsEndless};
 
 use crate::commands::{Command, Head};
 use crate::lines::{Said, said_by, said_of};
@@ -130,7 +130,7 @@ pub fn front_by(
 // A stream whose first line is so long and says this.
 fn with_said(alloc: Global, stream: &[u8], long: usize, said: Said) -> Result<Front, Memory>
     requires line { IsLine stream.now long }
-    requires told { Told (words_in (take long stream.now)) said }
+    requires told { WordsSay (words_in (take long stream.now)) said }
     ensures front { IfOk result (λ front. IsFront stream.now front) }
     ensures memory { OnErr result (WantsMemory stream.now) }
 {

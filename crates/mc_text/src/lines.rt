@@ -9,7 +9,7 @@ ghost use Rattle.mc_text.specs.declared.lines.Said.TheVariants.{Whole, Headed, B
 ghost use Rattle.mc_text.specs.Verbs.{lease_text, IsNoVerb, lease_rows};
 ghost use Rattle.mc_text.specs.Commands.{Then, NoMore, role_word};
 ghost use Rattle.mc_text.specs.Parsing.{IsSaid, IsUnsaid, with_block};
-ghost use Rattle.mc_text.specs.Telling.{Tells, TellsTxn, Told, SayTxn};
+ghost use Rattle.mc_text.specs.Telling.{Tells, TellsTxn, WordsSay, SayTxn};
 
 use crate::commands::{Command, Head, Role};
 use crate::txns::txn_of;
@@ -32,7 +32,7 @@ pub enum Said {
 
 /// What the line says, without the CR LF that ends it.
 pub(crate) fn said_of(alloc: Global, line: &[u8]) -> Result<Said, Memory>
-    ensures told { IfOk result (λ said. Told (words_in line.now) said) }
+    ensures told { IfOk result (λ said. WordsSay (words_in line.now) said) }
     ensures memory { OnErr result (SayTxn (words_in line.now)) }
 {
     let Some((word, args)) = next_word(line) else {

@@ -38,11 +38,11 @@ struct Row {
 
 impl<const N: usize> Model for Verbs<N> {
     ghost use Rattle.std.specs.Prelude.{List, map};
-    ghost use Rattle.mc_text.specs.Verbs.{TableRow, told};
+    ghost use Rattle.mc_text.specs.Verbs.{TableRow, row_of};
 
     ghost Value = { List TableRow };
 
-    ghost view = { λ verbs. map told verbs.rows };
+    ghost view = { λ verbs. map row_of verbs.rows };
 }
 
 impl<const N: usize> Verbs<N> {

@@ -7,14 +7,14 @@ use Rattle.mc_text.specs.declared.commands.Command.TheVariants.{IqSet, Sar, Unkn
 use Rattle.mc_text.specs.Words.{words_in}
 use Rattle.mc_text.specs.Commands.{AreWords, AreUnknown, announced, block_of}
 use Rattle.mc_text.specs.Streams.{EndsAt, IsLine, IsBlock, block_size, Announces, HaveVerb, Item, command, bad_line, long_line, bad_block, big_block}
-use Rattle.mc_text.specs.Streams.{Stands, IsOpen}
+use Rattle.mc_text.specs.Streams.{IsFirst, IsOpen}
 
 -- a block that may be has no more bytes than this
 block_bound : (stream : List ℕ) (behind : ℕ) (found : Option ℕ) (block : List ℕ) → IsBlock stream behind found block → block_size found ≤ 1048578
 block_bound stream behind None block h = omega arith
 block_bound stream behind (Some bytes) block h = let small = h.0 in omega arith
 
-pub stands_bound : (stream : List ℕ) (item : Item) (taken : ℕ) → Stands stream item taken → taken ≤ 1050628
+pub stands_bound : (stream : List ℕ) (item : Item) (taken : ℕ) → IsFirst stream item taken → taken ≤ 1050628
 stands_bound stream (command said) taken h =
     let short = h.line.short in
     let small = block_bound stream (h.long + 2) (announced said) (block_of said) h.block in

@@ -17,7 +17,7 @@ use Rattle.mc_text.proofs.FrontLemmas.{line_once}
 use Rattle.mc_text.proofs.StreamLemmas.{ends_less, line_more, line_bytes, words_more, block_more, not_long, stands_more, stands_fit}
 use Rattle.mc_text.proofs.VerbLemmas.{letters}
 use Rattle.mixed_lines.specs.Items.{IsPlainLine, IsNoPlainLine, IsWhole, IsHeaded, IsBadPlain, AwaitsBlock, IsOther}
-use Rattle.mixed_lines.specs.Items.{Item, command, plain, bad_line, long_line, bad_block, big_block, Stands, IsOpen, AreFirst}
+use Rattle.mixed_lines.specs.Items.{Item, command, plain, bad_line, long_line, bad_block, big_block, IsFirst, IsOpen, AreFirst}
 use Rattle.mixed_lines.proofs.OnceLemmas.{head_once}
 use Rattle.mixed_lines.proofs.BoundLemmas.{ends_or_not, stands_bound, open_bound}
 
@@ -34,7 +34,7 @@ headed_more stream more long head h =
     record { verb = h.verb; args = h.args; line = plain_more stream more long h.verb h.args h.line; says = h.says }
 
 -- what stands first by the grammar of lease commands has a line, or none can come
-line_in : (stream : List ℕ) (item : leases.Item) (taken : ℕ) → leases.Stands stream item taken
+line_in : (stream : List ℕ) (item : leases.Item) (taken : ℕ) → leases.IsFirst stream item taken
     → ((long : ℕ) × leases.IsLine stream long) ⊎ leases.IsLong stream
 line_in stream (leases.command said) taken h = inl (h.long, h.line)
 line_in stream leases.bad_line taken h = inl (h.long, h.line)
@@ -59,7 +59,7 @@ other_more : (stream more : List ℕ) (item : leases.Item) (taken : ℕ) → IsO
 other_more stream more item taken h = (stands_more stream more item taken h.0, no_plain_more stream more item taken h)
 
 -- what stands first stays first
-pub item_more : (stream more : List ℕ) (item : Item) (taken : ℕ) → Stands stream item taken → Stands (stream ++ more) item taken
+pub item_more : (stream more : List ℕ) (item : Item) (taken : ℕ) → IsFirst stream item taken → IsFirst (stream ++ more) item taken
 item_more stream more (command said) taken h = other_more stream more (leases.command said) taken h
 item_more stream more (plain said noreply) taken (inl h) = inl (record {
   long = h.long;
@@ -110,7 +110,7 @@ item_more stream more big_block taken (inr h) =
     inr (record { long = b.long; head = b.head; line = headed_more stream more b.long b.head b.line; big = b.big }, h.1)
 
 -- it takes no more bytes than there are
-pub item_fits : (stream : List ℕ) (item : Item) (taken : ℕ) → Stands stream item taken → taken ≤ length stream
+pub item_fits : (stream : List ℕ) (item : Item) (taken : ℕ) → IsFirst stream item taken → taken ≤ length stream
 item_fits stream (command said) taken h = stands_fit stream (leases.command said) taken h.0
 item_fits stream (plain said noreply) taken (inl h) = let inside = h.line.line.ends.whole in omega (arith, h.taken_is)
 item_fits stream (plain said noreply) taken (inr h) = let inside = h.block_is.1.whole in omega (arith, h.taken_is)
@@ -136,7 +136,7 @@ first_more stream more (item ∷ items) size h =
     )
 
 -- how many bytes an item takes at most
-item_bound : (stream : List ℕ) (item : Item) (taken : ℕ) → Stands stream item taken → taken ≤ 1050628
+item_bound : (stream : List ℕ) (item : Item) (taken : ℕ) → IsFirst stream item taken → taken ≤ 1050628
 item_bound stream (command said) taken h = stands_bound stream (leases.command said) taken h.0
 item_bound stream (plain said noreply) taken (inl h) = let short = h.line.line.short in omega (arith, h.taken_is)
 item_bound stream (plain said noreply) taken (inr h) =
@@ -189,8 +189,8 @@ shut_plain stream many is_open long verb args p =
       verb = verb;
       args = args;
       line = p;
-      no_whole = λ told noreply says.
-          is_open (plain told noreply) (long + 2) (inl (record { long = long; verb = verb; args = args; line = p; says = says; taken_is = refl }));
+      no_whole = λ said noreply says.
+          is_open (plain said noreply) (long + 2) (inl (record { long = long; verb = verb; args = args; line = p; says = says; taken_is = refl }));
       no_head = λ head says. shut_head stream long head many (record { verb = verb; args = args; line = p; says = says }) is_open;
       taken_is = refl;
     }))

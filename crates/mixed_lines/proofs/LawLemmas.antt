@@ -8,7 +8,7 @@ use Rattle.mc_text.specs.declared.plain_verb_words.PlainVerb.{PlainVerb}
 use Rattle.mc_text.specs.Streams as leases
 use Rattle.mc_text.proofs.StreamLemmas.{streams_tell}
 use Rattle.mixed_lines.specs.Items.{IsWhole, IsHeaded, IsBadPlain, IsOther}
-use Rattle.mixed_lines.specs.Items.{Item, command, plain, bad_line, long_line, bad_block, big_block, Stands, IsOpen, AreFirst}
+use Rattle.mixed_lines.specs.Items.{Item, command, plain, bad_line, long_line, bad_block, big_block, IsFirst, IsOpen, AreFirst}
 use Rattle.mixed_lines.specs.Laws.{StreamsTellItems}
 use Rattle.mixed_lines.proofs.OnceLemmas.{whole_once, head_once}
 use Rattle.mixed_lines.proofs.ItemLemmas.{item_fits, item_more, plain_once, whole_or_head, head_not_bad}
@@ -74,7 +74,7 @@ Split stream item taken = OfLease stream item taken ⊎ (OfWhole stream item tak
 of_lease : (stream : List ℕ) (lease : leases.Item) (taken : ℕ) → IsOther stream lease taken → Split stream (lifted lease) taken
 of_lease stream lease taken h = inl (record { lease = lease; is = refl; stands = h })
 
-split : (stream : List ℕ) (item : Item) (taken : ℕ) → Stands stream item taken → Split stream item taken
+split : (stream : List ℕ) (item : Item) (taken : ℕ) → IsFirst stream item taken → Split stream item taken
 split stream (command said) taken h = of_lease stream (leases.command said) taken h
 split stream (plain said noreply) taken (inl h) = inr (inl (record { said = said; noreply = noreply; whole = h; is = refl }))
 split stream (plain said noreply) taken (inr h) = inr (inr (inr (record {
@@ -192,7 +192,7 @@ split_same stream a b m n (inr (inr (inr h))) (inr (inr (inl k))) = absurd (head
 split_same stream a b m n (inr (inr (inr h))) (inr (inr (inr k))) = heads_same stream a b m n h k
 
 -- one item stands first
-item_once : (stream : List ℕ) (a b : Item) (m n : ℕ) → Stands stream a m → Stands stream b n → (a ≡ b) × (m ≡ n)
+item_once : (stream : List ℕ) (a b : Item) (m n : ℕ) → IsFirst stream a m → IsFirst stream b n → (a ≡ b) × (m ≡ n)
 item_once stream a b m n h k = split_same stream a b m n (split stream a m h) (split stream b n k)
 
 -- the items that stand behind those of a front go on

@@ -24,7 +24,7 @@ use Rattle.mc_text.specs.declared.faults.FrameFault.{FrameFault}
 use Rattle.mc_text.specs.declared.faults.FrameFault.TheVariants as frame
 use Rattle.mixed_lines.specs.Fronts.{Takes, Faults}
 use Rattle.mixed_lines.specs.Items.{IsNoPlainLine, IsWhole, IsHeaded, IsWithBlock, IsBadPlain, HasBigPlain, HasBadPlain, AwaitsBlock}
-use Rattle.mixed_lines.specs.Items.{command, plain, bad_line, Stands}
+use Rattle.mixed_lines.specs.Items.{command, plain, bad_line, IsFirst}
 use Rattle.mixed_lines.proofs.ItemLemmas.{first_once}
 
 -- a lease command is taken, where no line of a plain one stands
@@ -126,10 +126,10 @@ no_plain verb v e = let same : Lease verb ≡ Plain v = verb_once (Lease verb) (
 
 -- a lookup that the first line says
 pub lookup_stands : (stream : List ℕ) (long : ℕ) (args : List (List ℕ)) (said : Command) → leases.IsLine stream long
-    → words_in (take long stream) ≡ lease_text lease.IqGet ∷ args → IsSaid lease.IqGet args said → Stands stream (command said) (long + 2)
+    → words_in (take long stream) ≡ lease_text lease.IqGet ∷ args → IsSaid lease.IqGet args said → IsFirst stream (command said) (long + 2)
 lookup_stands stream long args said line words s = by said s.verb_is s.args
   where
-    by : (x : Command) → verb_of x ≡ Some lease.IqGet → AreArgs x args → Stands stream (command x) (long + 2)
+    by : (x : Command) → verb_of x ≡ Some lease.IqGet → AreArgs x args → IsFirst stream (command x) (long + 2)
     by (IqGet key sid floor) is at = (
       record {
         long = long;

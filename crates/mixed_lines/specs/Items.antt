@@ -91,23 +91,23 @@ pub data Item : Type 0 where
 
 -- this stands first by the grammar of lease commands, and no line of a plain one does
 abbrev pub IsOther : List ℕ → leases.Item → ℕ → Type 0
-IsOther stream item taken = leases.Stands stream item taken × IsNoPlainLine stream
+IsOther stream item taken = leases.IsFirst stream item taken × IsNoPlainLine stream
 
 -- this stands first in the stream, and takes so many bytes; the faults that last take none
-abbrev pub Stands : List ℕ → Item → ℕ → Type 0
-Stands stream (command said) taken = IsOther stream (leases.command said) taken
-Stands stream (plain said noreply) taken = IsWhole stream said noreply taken ⊎ IsWithBlock stream said noreply taken
-Stands stream bad_line taken = IsOther stream leases.bad_line taken ⊎ IsBadPlain stream taken
-Stands stream long_line taken = IsOther stream leases.long_line taken
-Stands stream bad_block taken = IsOther stream leases.bad_block taken ⊎ (HasBadPlain stream × (taken ≡ 0))
-Stands stream big_block taken = IsOther stream leases.big_block taken ⊎ (HasBigPlain stream × (taken ≡ 0))
+abbrev pub IsFirst : List ℕ → Item → ℕ → Type 0
+IsFirst stream (command said) taken = IsOther stream (leases.command said) taken
+IsFirst stream (plain said noreply) taken = IsWhole stream said noreply taken ⊎ IsWithBlock stream said noreply taken
+IsFirst stream bad_line taken = IsOther stream leases.bad_line taken ⊎ IsBadPlain stream taken
+IsFirst stream long_line taken = IsOther stream leases.long_line taken
+IsFirst stream bad_block taken = IsOther stream leases.bad_block taken ⊎ (HasBadPlain stream × (taken ≡ 0))
+IsFirst stream big_block taken = IsOther stream leases.big_block taken ⊎ (HasBigPlain stream × (taken ≡ 0))
 
 -- neither a whole command nor a fault stands first: more bytes are needed to tell
 abbrev pub IsOpen : List ℕ → Type 0
-IsOpen stream = (item : Item) (taken : ℕ) → Stands stream item taken → ⊥
+IsOpen stream = (item : Item) (taken : ℕ) → IsFirst stream item taken → ⊥
 
 -- these items stand first, one behind the other, and take so many bytes
 abbrev pub AreFirst : List ℕ → List Item → ℕ → Type 0
 AreFirst stream [] taken = taken ≡ 0
 AreFirst stream (item ∷ items) taken =
-    (one : ℕ) × (others : ℕ) × Stands stream item one × AreFirst (drop one stream) items others × (taken ≡ one + others)
+    (one : ℕ) × (others : ℕ) × IsFirst stream item one × AreFirst (drop one stream) items others × (taken ≡ one + others)

@@ -3,7 +3,7 @@ ghost use Rattle.std.specs.Prelude.{◌≡◌, true, Some, IfSome, IfNone};
 ghost use Rattle.mc_text.specs.Commands.{verb_of};
 ghost use Rattle.mc_text.specs.Verbs.{lease_text};
 ghost use Rattle.mc_text.specs.declared.verb_words.LeaseVerb.TheVariants.{IqGet};
-ghost use Rattle.mixed_lines.specs.Items.{command, Stands};
+ghost use Rattle.mixed_lines.specs.Items.{command, IsFirst};
 ghost use Rattle.mixed_lines.specs.Fronts.{Takes};
 
 use mc_text::{Command, Framer, iqget_of, line_end, next_word};
@@ -25,7 +25,7 @@ pub fn next_lookup(framer: &mut Framer) -> Option<Command>
 /// The lookup that stands first in a stream, and how many bytes it takes.
 #[inline(always)]
 fn lookup_front(stream: &[u8]) -> Option<(Command, usize)>
-    ensures stands { IfSome result (λ read. Stands stream.now (command read.0) read.1) }
+    ensures stands { IfSome result (λ read. IsFirst stream.now (command read.0) read.1) }
     ensures looks_up { IfSome result (λ read. verb_of read.0 ≡ Some IqGet) }
 {
     let [b'i', b'q', b'g', ..] = stream else {

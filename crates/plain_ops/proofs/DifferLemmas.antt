@@ -49,11 +49,11 @@ differ_moved : (old new : List (List ℕ × Item)) → IsPermutation old new →
 differ_moved old new moved d =
     IsDistinct-IsPermutation is_same nat_list_eq_equiv.symm (keys_of old) (keys_of new) (IsPermutation-map (λ (e : List ℕ × Item). e.0) old new moved) d
 
-pub effect_differs : (old new : PlainMap) (effect : Effect) (told : PlainReply) → ComesOf old effect new told → IsDistinct is_same (keys_of old.entries)
+pub effect_differs : (old new : PlainMap) (effect : Effect) (reply : PlainReply) → ComesOf old effect new reply → IsDistinct is_same (keys_of old.entries)
     → IsDistinct is_same (keys_of new.entries)
-effect_differs old new (tells wanted) told h d = rw h.1 d
-effect_differs old new (drops key) told h d = differ_moved (without old.entries key) new.entries h.1 (distinct_without key old.entries d)
-effect_differs old new (stores key flags value wanted) told h d =
-    ⊎_elim (λ (s : IsStored old key flags value new × (told ≡ wanted)). differ_moved _ new.entries s.0.entries
+effect_differs old new (tells wanted) reply h d = rw h.1 d
+effect_differs old new (drops key) reply h d = differ_moved (without old.entries key) new.entries h.1 (distinct_without key old.entries d)
+effect_differs old new (stores key flags value wanted) reply h d =
+    ⊎_elim (λ (s : IsStored old key flags value new × (reply ≡ wanted)). differ_moved _ new.entries s.0.entries
     (IsDistinct-cons is_same key (keys_of (without old.entries key)) (others_differ key old.entries d) (distinct_without key old.entries d)))
-    (λ (r : IsRefused old key flags value told × (new ≡ old)). rw r.1 d) h
+    (λ (r : IsRefused old key flags value reply × (new ≡ old)). rw r.1 d) h

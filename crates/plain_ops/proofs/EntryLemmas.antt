@@ -156,7 +156,7 @@ ample key item entries bytes h room =
 -- what is told of a list of keys, with one key more
 pub found_more : (entries : List (List ℕ × Item)) (keys : List (List ℕ)) (key : List ℕ)
     → found_in entries (keys ++ key ∷ []) ≡ found_in entries keys ++ option_to_list (option_map (told_of key) (item_at entries key))
-found_more entries keys key = filter_map-append _ keys (key ∷ []) ∙ ap (λ (told : List Found). found_in entries keys ++ told) (one_told (option_map (told_of key) (item_at entries key)))
+found_more entries keys key = filter_map-append _ keys (key ∷ []) ∙ ap (λ (found : List Found). found_in entries keys ++ found) (one_told (option_map (told_of key) (item_at entries key)))
   where
     one_told : (o : Option Found) → cons_option o [] ≡ option_to_list o
     one_told None = refl
@@ -168,5 +168,5 @@ pub found_next : (entries : List (List ℕ × Item)) (keys : List (List ℕ)) (i
 found_next entries keys i key old new below is was grown =
     let one : take (i + 1) keys ≡ take i keys ++ key ∷ [] =
     ap (λ (n : ℕ). take n keys) (add-one i) ∙ take-suc keys i key below ∙ ap (λ (k : List ℕ). take i keys ++ k ∷ []) (sym is) in
-    rw one (grown ∙ ap (λ (told : List Found). told ++ option_to_list (option_map (told_of key) (item_at entries key))) was
+    rw one (grown ∙ ap (λ (found : List Found). found ++ option_to_list (option_map (told_of key) (item_at entries key))) was
     ∙ sym (found_more entries (take i keys) key))

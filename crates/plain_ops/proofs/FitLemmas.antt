@@ -19,9 +19,9 @@ fit_without key entries fit =
     let small : bytes_in (without entries key) ≤ 268435456 = let sum = bytes_out key entries in omega (arith, parts.1) in
     grind (arith, nat_tests, few, small)
 
-pub effect_fits : (old new : PlainMap) (effect : Effect) (told : PlainReply) → ComesOf old effect new told → is_fit old.entries ≡ true → is_fit new.entries ≡ true
-effect_fits old new (tells wanted) told h fit = rw h.1 fit
-effect_fits old new (drops key) told h fit = fit_moved (without old.entries key) new.entries h.1 (fit_without key old.entries fit)
-effect_fits old new (stores key flags value wanted) told h fit =
-    ⊎_elim (λ (s : IsStored old key flags value new × (told ≡ wanted)). fit_moved _ new.entries s.0.entries s.0.fit)
-    (λ (r : IsRefused old key flags value told × (new ≡ old)). rw r.1 fit) h
+pub effect_fits : (old new : PlainMap) (effect : Effect) (reply : PlainReply) → ComesOf old effect new reply → is_fit old.entries ≡ true → is_fit new.entries ≡ true
+effect_fits old new (tells wanted) reply h fit = rw h.1 fit
+effect_fits old new (drops key) reply h fit = fit_moved (without old.entries key) new.entries h.1 (fit_without key old.entries fit)
+effect_fits old new (stores key flags value wanted) reply h fit =
+    ⊎_elim (λ (s : IsStored old key flags value new × (reply ≡ wanted)). fit_moved _ new.entries s.0.entries s.0.fit)
+    (λ (r : IsRefused old key flags value reply × (new ≡ old)). rw r.1 fit) h

@@ -15,4 +15,4 @@ pub record AreWhole (entries : List (List ℕ × Item)) : Type 0 where
 
 -- they stay so
 abbrev pub StayWhole : Type 0
-StayWhole = (old new : PlainMap) (command : PlainCommand) (told : PlainReply) → PlainStep old command new told → AreWhole old.entries → AreWhole new.entries
+StayWhole = (old new : PlainMap) (command : PlainCommand) (reply : PlainReply) → PlainStep old command new reply → AreWhole old.entries → AreWhole new.entries

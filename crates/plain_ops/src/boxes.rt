@@ -1,14 +1,11 @@
 use crate::desks::PlainDesk;
 use crate::maps::Plain;
+use brief_lock::locked_soon;
 use mc_text::{PlainCommand, PlainReply};
-use std::hint::spin_loop;
-use std::sync::{Mutex, MutexGuard, Wait};
+use std::sync::{Mutex, Wait};
 
 /// How often a worker looks again for the lock that another has, before it sleeps.
 const LOOKS: u32 = 256;
-
-/// How many hints to the processor a worker gives between two such looks.
-const PAUSE: u32 = 4;
 
 /// A plain map under one lock, for several workers.
 #[derive(Drop)]
@@ -44,20 +41,6 @@ impl<'a, R: Wait> PlainDesk for PlainSeat<'a, R> {
     ghost record_of = { λ desk. None };
 
     fn plain(&mut self, command: &PlainCommand) -> PlainReply {
-        locked_soon(self.rt, &self.plain.lock).plain(command)
+        locked_soon(self.rt, &self.plain.lock, LOOKS).plain(command)
     }
-}
-
-/// Takes the lock. Where another worker has it, this one looks again for a while before it sleeps: a command takes
-/// less time than to send a thread to sleep and to wake it.
-fn locked_soon<'a, R: Wait>(rt: &R, lock: &'a Mutex<Plain>) -> MutexGuard<'a, Plain> {
-    for _ in 0..LOOKS {
-        if let Some(guard) = lock.try_lock() {
-            return guard;
-        }
-        for _ in 0..PAUSE {
-            spin_loop();
-        }
-    }
-    lock.lock(rt)
 }

@@ -15,7 +15,7 @@ pub trait PlainDesk {
     fn plain(&mut self, command: &PlainCommand) -> PlainReply
         ensures belongs { Belongs command.now result }
         ensures recorded { record_of self.new
-            ≡ with_plain_call (record { command = command.now; told = result }) (record_of self.old) };
+            ≡ with_plain_call (record { command = command.now; reply = result }) (record_of self.old) };
 }
 
 /// A plain map that one worker has for itself. It doesn't tell a record.

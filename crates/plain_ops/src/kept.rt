@@ -49,7 +49,7 @@ impl Kept {
 
     /// The value, to be told.
     #[tactic(auto, unfolding(crate::specs::Kept::bytes_of))]
-    pub(crate) fn told(&self) -> Result<Value, Memory>
+    pub(crate) fn value(&self) -> Result<Value, Memory>
         ensures { IfOk result (λ value. value ≡ self.now) }
     {
         match &self.text {

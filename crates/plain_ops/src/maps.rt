@@ -1,6 +1,6 @@
 ghost use Rattle.std.specs.Prelude.{[], ◌≡◌, ◌≤◌, ◌<◌, ◌-◌, ◌^◌, true, decimal, OnOk, OnErr};
 ghost use Rattle.mc_text.specs.declared.plain_commands.PlainCommand.TheVariants.{Set, Add, Replace, Cas, Delete, Incr, Decr};
-ghost use Rattle.mc_text.specs.declared.plain_replies.PlainReply.TheVariants as reply;
+ghost use Rattle.mc_text.specs.declared.plain_replies.PlainReply.TheVariants as PlainReply;
 ghost use Rattle.plain_ops.specs.Entries.{is_fit};
 ghost use Rattle.plain_ops.specs.Steps.{PlainStep, ComesOf, stores, effect_of, after, IsStored};
 
@@ -140,7 +140,7 @@ impl Plain {
 
     // Stores a number as it is written, and tells it.
     fn store_number(&mut self, key: &PlainKey, flags: u32, number: u64) -> PlainReply
-        ensures { ComesOf self.old (stores key.now flags (decimal number) (reply.Number number))
+        ensures { ComesOf self.old (stores key.now flags (decimal number) (PlainReply.Number number))
             self.new result }
     {
         let mut buffer = Buffer::new();

@@ -80,7 +80,7 @@ impl Table {
         found.push(Found {
             key: key.copy()?,
             flags: item.flags,
-            value: item.value.told()?,
+            value: item.value.value()?,
             unique: item.unique,
         })?;
         Ok(())

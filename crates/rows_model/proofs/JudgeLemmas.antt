@@ -46,12 +46,12 @@ pub walked : {A : Type 0} (step : A → Change → A) (view : Tables → A)
     → ((change : Change) (t : Tables) → Fit t → view (changed change t) ≡ step (view t) change)
     → (place : ℕ) (changes : List Change) (t after : Tables) → Fit t
     → All HasIds changes → apply_from place changes t ≡ Ok after → view after ≡ fold step (view t) changes
-walked step view told place [] t after fit ids e =
+walked step view is_so place [] t after fit ids e =
     let same : t ≡ after = cc in ap view (sym same)
-walked step view told place (change ∷ changes) t after fit ids e =
+walked step view same place (change ∷ changes) t after fit ids e =
     walk_go step view place change changes t after (applies change t) refl fit (All-head HasIds change changes ids) e
-    (λ kept made. walked step view told (place + 1) changes (changed change t) after kept (All-tail HasIds change changes ids) made
-    ∙ ap (λ (v : _). fold step v changes) (told change t fit))
+    (λ kept made. walked step view same (place + 1) changes (changed change t) after kept (All-tail HasIds change changes ids) made
+    ∙ ap (λ (v : _). fold step v changes) (same change t fit))
 
 -- the three parts of the tables
 pub links_changed : (change : Change) (t : Tables) → (changed change t).links ≡ links_after t.links change

@@ -275,9 +275,9 @@ found_name (x ∷ members) id m all e =
     found_go (λ member. IsName member.name) x m members id (x.id == id) (All-head (λ member. IsName member.name) x members all) e
     (found_name members id m (All-tail (λ member. IsName member.name) x members all))
 
-told : (o : Option Member) (one : Person) → name_in o ≡ Some one.name → profile_text o one.friends one.pending ≡ person_text one
-told None one e = absurd (none-some one.name e)
-told (Some m) one e =
+profile_is : (o : Option Member) (one : Person) → name_in o ≡ Some one.name → profile_text o one.friends one.pending ≡ person_text one
+profile_is None one e = absurd (none-some one.name e)
+profile_is (Some m) one e =
     ap (λ (name : List ℕ). person_text (record { name = name; friends = one.friends; pending = one.pending })) (same_Some m.name one.name e)
 
 -- the profile of a member
@@ -299,7 +299,7 @@ someone_refreshed id m changes t after fit ids e is =
     ∙ (ap (λ (o : Option ℕ). option_map person_text (person name o (count_after Inviting id changes (pending_count id t))))
     (count_law Befriended id changes t after fit ids e)
     ∙ (ap (λ (o : Option ℕ). option_map person_text (person name (Some (friend_count id after)) o)) (count_law Inviting id changes t after fit ids e)
-    ∙ ap (λ (text : List ℕ). Some text) (sym (told (member_of id after) new after_name)))))
+    ∙ ap (λ (text : List ℕ). Some text) (sym (profile_is (member_of id after) new after_name)))))
 
 profile_go : (id : ℕ) (changes : List Change) (t after : Tables) (o : Option Member) → Fit t → All HasIds changes → apply_from 0 changes t ≡ Ok after
     → member_of id t ≡ o → refreshed_profile id (profile_text o (friend_count id t) (pending_count id t)) changes

@@ -12,7 +12,7 @@ use Rattle.rows_model.specs.Rows.{Tables}
 use Rattle.rows_model.specs.Query.{answer}
 use Rattle.rows_model.specs.Changes.{touches}
 use Rattle.rows_model.proofs.SameKey.{same_key-true, same_key-swap}
-use Rattle.lease_table.specs.Stands.{key_cmp}
+use Rattle.lease_table.specs.Standing.{key_cmp}
 use Rattle.lease_table.proofs.KeyLemmas.{is_at-key}
 use Rattle.key_shard.specs.declared.steps.Ended.{Ended}
 use Rattle.key_shard.specs.declared.steps.Step.{Step}
@@ -142,8 +142,8 @@ pub hit-fresh : (opening : Tables) (log : List Commit) (past : List Step)
     → stamp ≤ notes.count → floor_of key floors ≤ stamp
     → IfSome (noted key notes.answers) (λ versions. InTurn versions → IsTrue says ↔ value_at stamp versions ≡ Some value)
     → IsTrue says ↔ IsFreshHit opening log past key value stamp
-hit-fresh opening log past notes floors key value stamp says are floor_is known within above told =
-    by (noted key notes.answers) known (are.answers key) told
+hit-fresh opening log past notes floors key value stamp says are floor_is known within above is_so =
+    by (noted key notes.answers) known (are.answers key) is_so
   where
     in_log : stamp ≤ length log
     in_log = let count = are.count in omega (arith, count)

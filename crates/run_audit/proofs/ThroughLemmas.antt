@@ -5,7 +5,7 @@ use Rattle.std.specs.Global.{Vec}
 use Rattle.rows_model.specs.declared.keys.QKey.{QKey}
 use Rattle.rows_model.specs.Key.{same_key}
 use Rattle.rows_model.proofs.SameKey.{same_key-true, same_key-swap}
-use Rattle.lease_table.specs.Stands.{key_cmp}
+use Rattle.lease_table.specs.Standing.{key_cmp}
 use Rattle.lease_table.proofs.KeyLemmas.{is_at-key}
 use Rattle.run_audit.specs.declared.answers.Version.{Version}
 use Rattle.run_audit.specs.Answers.{noted, version, pushed}

@@ -11,7 +11,7 @@ use Rattle.rows_model.specs.Rows.{Tables}
 use Rattle.rows_model.specs.Refresh.{refreshed}
 use Rattle.rows_model.specs.Query.{answer}
 use Rattle.rows_model.specs.Changes.{is_key_before}
-use Rattle.lease_table.specs.Stands.{key_cmp}
+use Rattle.lease_table.specs.Standing.{key_cmp}
 use Rattle.key_shard.specs.declared.steps.Step.{Step}
 use Rattle.key_shard.specs.declared.steps.Step.TheVariants.{Hit}
 use Rattle.sql_keeper.specs.declared.stores.Commit.{Commit}

@@ -12,7 +12,7 @@ use Rattle.sql_keeper.specs.declared.stores.Commit.{Commit}
 use Rattle.sql_keeper.specs.Fresh.{releases}
 use Rattle.run_audit.specs.declared.holds.Hold.{Hold}
 use Rattle.run_audit.specs.Grants.{hold_cmp}
-use Rattle.lease_table.specs.Stands.{key_cmp}
+use Rattle.lease_table.specs.Standing.{key_cmp}
 
 -- A number behind one commit more; where there is none, that of the commit itself, if it passes.
 abbrev pub one_further : Bool → ℕ → ℕ

@@ -80,9 +80,9 @@ leaf others name = record (new_shape name) { rules = ruled others; no_binary_nam
 -- ---- the walk over the words of a place
 
 -- a file's path is there
-abbrev begun : Place → Walk
-begun Fresh = walk_from nothing_held
-begun (File path) = record {
+abbrev past_place : Place → Walk
+past_place Fresh = walk_from nothing_held
+past_place (File path) = record {
   held = record { rows = []; pending = Some (codes "db", path ∷ []); skip = 0 };
   waiting = idle;
   position = 1;
@@ -105,11 +105,11 @@ unfolding clap_on_literals
 option_walked others = refl
 
 path_met : (others : List Rule) (path : Text) → IsPlainWord path
-    → subcommand_or_other (ruled others) None (option (codes "db")) 1 path waiting.held ≡ ((begun (File path)).held, next idle)
+    → subcommand_or_other (ruled others) None (option (codes "db")) 1 path waiting.held ≡ ((past_place (File path)).held, next idle)
 unfolding clap_on_literals
 path_met others path p = rw (no_dashes path p, no_long path p, no_short path p) refl
 
-path_walked : (others : List Rule) (path : Text) → IsPlainWord path → walked (ruled others) [] waiting path ≡ begun (File path)
+path_walked : (others : List Rule) (path : Text) → IsPlainWord path → walked (ruled others) [] waiting path ≡ past_place (File path)
 unfolding clap_on_literals
 path_walked others path p = ap (λ (met : Held × Step). after_step (ruled others) path waiting met.0 met.1) (path_met others path p)
 
@@ -122,14 +122,14 @@ unfolding clap_on_literals
 path_turn others name path p = rw (path_met others path p, no_dashes path p, no_long path p, no_short path p) refl
 
 place_walked : (others : List Rule) (place : Place) → HasPlainPath place → (words : List Text)
-    → walk (ruled others) [] nothing_held (place_words place ++ words) ≡ fold (walked (ruled others) []) (begun place) words
+    → walk (ruled others) [] nothing_held (place_words place ++ words) ≡ fold (walked (ruled others) []) (past_place place) words
 place_walked others Fresh p words = refl
 place_walked others (File path) p words =
     ap (λ (w : Walk). fold (walked (ruled others) []) w (path ∷ words)) (option_walked others)
     ∙ ap (λ (w : Walk). fold (walked (ruled others) []) w words) (path_walked others path p)
 
 place_faultless : (others : List Rule) (name : Text) (place : Place) → HasPlainPath place → (words : List Text)
-    → walk_fault (leaf others name) [] (walk_from nothing_held) (place_words place ++ words) ≡ walk_fault (leaf others name) [] (begun place) words
+    → walk_fault (leaf others name) [] (walk_from nothing_held) (place_words place ++ words) ≡ walk_fault (leaf others name) [] (past_place place) words
 unfolding walk_fault
 place_faultless others name Fresh p words = refl
 place_faultless others name (File path) p words =
@@ -161,12 +161,12 @@ after place values = record {
   stopped = None;
 }
 
-first_walked : (place : Place) (word : Text) → IsPlainWord word → walked (ruled valued) [] (begun place) word ≡ after place (word ∷ [])
+first_walked : (place : Place) (word : Text) → IsPlainWord word → walked (ruled valued) [] (past_place place) word ≡ after place (word ∷ [])
 unfolding clap_on_literals
 first_walked Fresh word p =
-    ap (λ (met : Held × Step). after_step (ruled valued) word (begun Fresh) met.0 met.1) (first_met (ruled valued) word (begun Fresh).held p)
+    ap (λ (met : Held × Step). after_step (ruled valued) word (past_place Fresh) met.0 met.1) (first_met (ruled valued) word (past_place Fresh).held p)
 first_walked (File path) word p =
-    ap (λ (met : Held × Step). after_step (ruled valued) word (begun (File path)) met.0 met.1) (first_met (ruled valued) word (begun (File path)).held p)
+    ap (λ (met : Held × Step). after_step (ruled valued) word (past_place (File path)) met.0 met.1) (first_met (ruled valued) word (past_place (File path)).held p)
 
 next_walked : (place : Place) (values : List Text) (word : Text) → IsPlainWord word
     → walked (ruled valued) [] (after place values) word ≡ after place (values ++ word ∷ [])
@@ -174,11 +174,11 @@ unfolding clap_on_literals
 next_walked place values word p =
     ap (λ (met : Held × Step). after_step (ruled valued) word (after place values) met.0 met.1) (next_met (ruled valued) word (after place values).held p)
 
-first_turn : (name : Text) (place : Place) (word : Text) → IsPlainWord word → turn_fault (leaf valued name) [] (begun place) word ≡ []
+first_turn : (name : Text) (place : Place) (word : Text) → IsPlainWord word → turn_fault (leaf valued name) [] (past_place place) word ≡ []
 unfolding clap_on_literals
-first_turn name Fresh word p = rw (first_met (ruled valued) word (begun Fresh).held p, no_dashes word p, no_long word p, no_short word p) refl
+first_turn name Fresh word p = rw (first_met (ruled valued) word (past_place Fresh).held p, no_dashes word p, no_long word p, no_short word p) refl
 first_turn name (File path) word p =
-    rw (first_met (ruled valued) word (begun (File path)).held p, no_dashes word p, no_long word p, no_short word p) refl
+    rw (first_met (ruled valued) word (past_place (File path)).held p, no_dashes word p, no_long word p, no_short word p) refl
 
 next_turn : (name : Text) (place : Place) (values : List Text) (word : Text) → IsPlainWord word
     → turn_fault (leaf valued name) [] (after place values) word ≡ []
@@ -300,7 +300,7 @@ serve_taken (File path) at a b c d e p = record {
 -- ---- no values
 
 -- what is read of the words of the place alone
-bare_walked : (place : Place) → HasPlainPath place → walk (ruled bare) [] nothing_held (place_words place ++ []) ≡ begun place
+bare_walked : (place : Place) → HasPlainPath place → walk (ruled bare) [] nothing_held (place_words place ++ []) ≡ past_place place
 bare_walked place at = place_walked bare place at []
 
 bare_faultless : (name : Text) (place : Place) → HasPlainPath place → walk_fault (leaf bare name) [] (walk_from nothing_held) (place_words place ++ []) ≡ []

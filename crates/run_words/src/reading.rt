@@ -53,7 +53,7 @@ fn read_texts<'a>(alloc: Global, texts: &'a [&'a str]) -> Result<Words, WordsFau
             Some(command) => Ok(command),
             None => Err(WordsFault::Usage),
         },
-        Err(error) => told_by(alloc, &error),
+        Err(error) => text_by(alloc, &error),
     }
 }
 
@@ -96,11 +96,11 @@ fn unlisted(words: &[Vec<u8>]) -> WordsFault
 }
 
 // What clap's refusal comes to: the text that the words ask for, or a fault.
-fn told_by(alloc: Global, error: &Error) -> Result<Words, WordsFault>
+fn text_by(alloc: Global, error: &Error) -> Result<Words, WordsFault>
     ensures { IsRefused (kind_of error.now) result }
 {
     match error.kind() {
-        ErrorKind::DisplayHelp | ErrorKind::DisplayVersion => Ok(Words::Told {
+        ErrorKind::DisplayHelp | ErrorKind::DisplayVersion => Ok(Words::Text {
             text: format!(in alloc; "{error}")?.into_bytes(),
         }),
         ErrorKind::OutOfMemory => Err(WordsFault::Memory),

@@ -10,7 +10,7 @@ use Rattle.std.specs.Prelude.{IfSome, Result, Ok, Err, MatchResult}
 use Rattle.session_client.specs.declared.replies.Outcome.{Outcome}
 use Rattle.session_client.specs.declared.replies.Outcome.TheVariants as outcomes
 use Rattle.session_client.specs.declared.replies.Reply.{Reply}
-use Rattle.session_client.specs.declared.replies.Reply.TheVariants as reply
+use Rattle.session_client.specs.declared.replies.Reply.TheVariants as Reply
 use Rattle.session_client.specs.declared.replies.Wanted.{Wanted}
 use Rattle.session_client.specs.declared.replies.Wanted.TheVariants as wanted
 use Rattle.session_client.specs.declared.stages.Next.{Next}
@@ -302,7 +302,7 @@ pub after_back : (writing : Writing) (hand : HandView) (ended : Outcome)
       given = hand.given;
       grants = record { items = grant ∷ hand.grants.items; room = hand.grants.room };
       values = hand.values;
-    }) (stages.Dropping ended how) short (reply.SarBack grant ∷ heard)
+    }) (stages.Dropping ended how) short (Reply.SarBack grant ∷ heard)
 after_back writing hand ended how back grant short heard named (next, ending) =
     let (items, values, way, outcome) = ending in
     let at : slice_get (granted heard) (released heard) ≡ Some grant = subst (λ o. IsNext o heard) named next in
@@ -328,25 +328,25 @@ ended_so Renews ended = refl
 
 -- a writer that was told of its commit, with memory for the new values, finishes its grants
 pub committed_wants : (writing : Writing) (number : ℕ) (txn : List Change) (back : GrantsView) (short : Bool) (heard : List Reply) → short ≡ false
-    → write_wants writing short (reply.Committed number txn back ∷ heard)
+    → write_wants writing short (Reply.Committed number txn back ∷ heard)
     ≡ release_of writing.txn (wants.Finishes number)
-    (slice_get (given (reply.Committed number txn back ∷ heard)) (released (reply.Committed number txn back ∷ heard)))
+    (slice_get (given (Reply.Committed number txn back ∷ heard)) (released (Reply.Committed number txn back ∷ heard)))
 committed_wants writing number txn back short heard roomy =
     ap (λ b. release_of writing.txn (release_after b (Some number))
-    (slice_get (given (reply.Committed number txn back ∷ heard)) (released (reply.Committed number txn back ∷ heard)))) roomy
+    (slice_get (given (Reply.Committed number txn back ∷ heard)) (released (Reply.Committed number txn back ∷ heard)))) roomy
 
 -- it has its grants again, and the new values beside them
 pub after_commit : (writing : Writing) (hand : HandView) (number room : ℕ) (txn : List Change) (back : GrantsView) (short : Bool) (heard : List Reply)
-    → CommitAwaits writing.txn (record { items = hand.given; room = room }) (reply.Committed number txn back)
+    → CommitAwaits writing.txn (record { items = hand.given; room = room }) (Reply.Committed number txn back)
     → hand.given ≡ granted heard → IsOut hand short heard
     → IsEnding writing (record { room = hand.room; given = hand.given; grants = back; values = all_renewed txn hand.given hand.values })
     (outcomes.Committed number) (releases.Finish number)
-    (released (reply.Committed number txn back ∷ heard)) (released (reply.Committed number txn back ∷ heard)) short (reply.Committed number txn back ∷ heard)
-after_commit writing hand number room txn back short heard awaits told (values, none, before, roomy) =
+    (released (Reply.Committed number txn back ∷ heard)) (released (Reply.Committed number txn back ∷ heard)) short (Reply.Committed number txn back ∷ heard)
+after_commit writing hand number room txn back short heard awaits is_so (values, none, before, roomy) =
     let same = append-nil (granted heard) in
     let all = append-nil (given heard) in (
-      awaits.1.same ∙ told ∙ ap (λ m. drop m (granted heard)) (sym none) ∙ ap (λ l. drop (released heard) l) (sym same),
-      ap (λ l. all_renewed txn l hand.values) (told ∙ granted-given heard)
+      awaits.1.same ∙ is_so ∙ ap (λ m. drop m (granted heard)) (sym none) ∙ ap (λ l. drop (released heard) l) (sym same),
+      ap (λ l. all_renewed txn l hand.values) (is_so ∙ granted-given heard)
           ∙ ap (λ l. all_renewed txn (permits (given heard)) l) values ∙ renewed_all txn (given heard)
           ∙ ap (λ l. new_values l (given heard)) awaits.0 ∙ ap (λ m. new_values writing.txn (drop m (given heard))) (sym none)
           ∙ ap (λ l. new_values writing.txn (drop (released heard) l)) (sym all),

@@ -15,7 +15,7 @@ use Rattle.lease_table.specs.declared.records.Quar.{Quar}
 use Rattle.lease_table.specs.Leases.{way_of}
 use Rattle.key_shard.specs.declared.steps.Step.{Step}
 use Rattle.key_shard.specs.declared.replies.QAnswer.{QAnswer}
-use Rattle.key_shard.specs.declared.replies.QAnswer.TheVariants as told
+use Rattle.key_shard.specs.declared.replies.QAnswer.TheVariants as quarantined
 use Rattle.key_shard.specs.Past.{Terms, seen_by, holder_of, entry}
 use Rattle.key_shard.specs.Answers.{quarantine_step, quarantine_by, refused_step}
 use Rattle.key_shard.specs.Replies.{ShowsQuarantine, ShowsRaise, old_value}
@@ -41,7 +41,7 @@ quarantine_belongs terms past key who mode by now answer =
     P a = IsQuarantineOf who key mode a
 
     granted : (token : ℕ)
-        → answer ≡ told.Granted (record { shard = terms.no; key = key; sid = who; mode = mode; token = token }) (old_value mode (entry key past))
+        → answer ≡ quarantined.Granted (record { shard = terms.no; key = key; sid = who; mode = mode; token = token }) (old_value mode (entry key past))
         → IsQuarantineOf who key mode answer
     granted token is = subst P (sym is) (record { of_key = refl; of_session = refl; in_mode = refl }, fits_old mode (entry key past))
 

@@ -103,18 +103,18 @@ pub record OfLent (at : Option Permit) (P : Permit → Type 0) : Type 0 where
   pub some : at ≡ Some lent
   pub awaits : P lent
 
-pub raise_lent : (at : Option Permit) (told : Reply) → RaiseAwaits at told → OfLent at (λ lent. RaiseAwaits (Some lent) told)
-raise_lent (Some lent) told h = record { lent = lent; some = refl; awaits = h }
-raise_lent None told h = elim h [ ]
+pub raise_lent : (at : Option Permit) (reply : Reply) → RaiseAwaits at reply → OfLent at (λ lent. RaiseAwaits (Some lent) reply)
+raise_lent (Some lent) reply h = record { lent = lent; some = refl; awaits = h }
+raise_lent None reply h = elim h [ ]
 
-pub renew_lent : (at : Option Permit) (told : Reply) → RenewAwaits at told → OfLent at (λ lent. RenewAwaits (Some lent) told)
-renew_lent (Some lent) told h = record { lent = lent; some = refl; awaits = h }
-renew_lent None told h = elim h [ ]
+pub renew_lent : (at : Option Permit) (reply : Reply) → RenewAwaits at reply → OfLent at (λ lent. RenewAwaits (Some lent) reply)
+renew_lent (Some lent) reply h = record { lent = lent; some = refl; awaits = h }
+renew_lent None reply h = elim h [ ]
 
 -- the next place is one behind
-pub turned_next : (told : Reply) (heard : List Reply) (place : ℕ) → is_turn told ≡ true → turned heard ≡ place → turned (told ∷ heard) ≡ place + 1
-turned_next told heard place on e =
-    sum_by-cons (λ (t : Reply). cond (is_turn t) 1 0) told heard ∙ ap (λ b. cond b 1 0 + turned heard) on ∙ omega (arith, e)
+pub turned_next : (reply : Reply) (heard : List Reply) (place : ℕ) → is_turn reply ≡ true → turned heard ≡ place → turned (reply ∷ heard) ≡ place + 1
+turned_next reply heard place on e =
+    sum_by-cons (λ (t : Reply). cond (is_turn t) 1 0) reply heard ∙ ap (λ b. cond b 1 0 + turned heard) on ∙ omega (arith, e)
 
 -- a grant that was lent and came back is among the others as it was
 pub same_items : (items grants : List Permit) (place : ℕ) (lent back : Permit)

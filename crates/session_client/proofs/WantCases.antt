@@ -23,7 +23,7 @@ use Rattle.session_client.specs.declared.plans.Plan.{Plan}
 use Rattle.session_client.specs.declared.plans.Plan.TheVariants.{Read, Write, Look, Quit, Skip, Raise, Renew}
 use Rattle.session_client.specs.declared.replies.Fault.{Fault}
 use Rattle.session_client.specs.declared.replies.Reply.{Reply}
-use Rattle.session_client.specs.declared.replies.Reply.TheVariants as reply
+use Rattle.session_client.specs.declared.replies.Reply.TheVariants as Reply
 use Rattle.session_client.specs.declared.replies.Wanted.{Wanted}
 use Rattle.session_client.specs.declared.replies.Wanted.TheVariants as wanted
 use Rattle.session_client.specs.Plans.{keys_of, mode_on, without_key}
@@ -36,39 +36,39 @@ use Rattle.session_client.specs.Wants.{release_by, new_value, finish, release_of
 
 -- a reply to a raise
 abbrev pub is_raise : Reply → Bool
-is_raise (reply.Raise told) = true
+is_raise (Reply.Raise answer) = true
 is_raise other = false
 
 -- such a reply alone changes what was granted before
-pub granted-kept : (told : Reply) (place : ℕ) (grants : List Permit) → is_raise told ≡ false → granted_by told place grants ≡ grants
-granted-kept (reply.Raise told) place grants e = cc
+pub granted-kept : (reply : Reply) (place : ℕ) (grants : List Permit) → is_raise reply ≡ false → granted_by reply place grants ≡ grants
+granted-kept (Reply.Raise answer) place grants e = cc
 granted-kept other place grants e = refl
 
-pub given-kept : (told : Reply) (place : ℕ) (ones : List Given) → is_raise told ≡ false → given_by told place ones ≡ ones
-given-kept (reply.Raise told) place ones e = cc
+pub given-kept : (reply : Reply) (place : ℕ) (ones : List Given) → is_raise reply ≡ false → given_by reply place ones ≡ ones
+given-kept (Reply.Raise answer) place ones e = cc
 given-kept other place ones e = refl
 
-first_none : (told : Reply) (new : List Reply) → All (λ told. is_raise told ≡ false) (told ∷ new) → is_raise told ≡ false
-first_none told new none = none 0 told (omega arith)
+first_none : (reply : Reply) (new : List Reply) → All (λ reply. is_raise reply ≡ false) (reply ∷ new) → is_raise reply ≡ false
+first_none reply new none = none 0 reply (omega arith)
 
-rest_none : (told : Reply) (new : List Reply) → All (λ told. is_raise told ≡ false) (told ∷ new) → All (λ told. is_raise told ≡ false) new
-rest_none told new none = λ k d less. none (suc k) d (omega (arith, less))
+rest_none : (reply : Reply) (new : List Reply) → All (λ reply. is_raise reply ≡ false) (reply ∷ new) → All (λ reply. is_raise reply ≡ false) new
+rest_none reply new none = λ k d less. none (suc k) d (omega (arith, less))
 
 -- without such a reply, the grants of what was heard later follow those of what was heard before
-pub grants-append : (new heard : List Reply) → All (λ told. is_raise told ≡ false) new → granted (new ++ heard) ≡ granted heard ++ granted new
+pub grants-append : (new heard : List Reply) → All (λ reply. is_raise reply ≡ false) new → granted (new ++ heard) ≡ granted heard ++ granted new
 grants-append [] heard none = sym (append-nil (granted heard))
-grants-append (told ∷ new) heard none =
-    ap (λ l. l ++ grants_in told) (granted-kept told (turned (new ++ heard)) (granted (new ++ heard)) (first_none told new none) ∙ grants-append new heard (rest_none told new none))
-    ∙ append_assoc (granted heard) (granted new) (grants_in told)
-    ∙ ap (λ l. granted heard ++ (l ++ grants_in told)) (sym (granted-kept told (turned new) (granted new) (first_none told new none)))
+grants-append (reply ∷ new) heard none =
+    ap (λ l. l ++ grants_in reply) (granted-kept reply (turned (new ++ heard)) (granted (new ++ heard)) (first_none reply new none) ∙ grants-append new heard (rest_none reply new none))
+    ∙ append_assoc (granted heard) (granted new) (grants_in reply)
+    ∙ ap (λ l. granted heard ++ (l ++ grants_in reply)) (sym (granted-kept reply (turned new) (granted new) (first_none reply new none)))
 
 -- and so what was given later follows what was given before
-pub given-append : (new heard : List Reply) → All (λ told. is_raise told ≡ false) new → given (new ++ heard) ≡ given heard ++ given new
+pub given-append : (new heard : List Reply) → All (λ reply. is_raise reply ≡ false) new → given (new ++ heard) ≡ given heard ++ given new
 given-append [] heard none = sym (append-nil (given heard))
-given-append (told ∷ new) heard none =
-    ap (λ l. l ++ given_in told) (given-kept told (turned (new ++ heard)) (given (new ++ heard)) (first_none told new none) ∙ given-append new heard (rest_none told new none))
-    ∙ append_assoc (given heard) (given new) (given_in told)
-    ∙ ap (λ l. given heard ++ (l ++ given_in told)) (sym (given-kept told (turned new) (given new) (first_none told new none)))
+given-append (reply ∷ new) heard none =
+    ap (λ l. l ++ given_in reply) (given-kept reply (turned (new ++ heard)) (given (new ++ heard)) (first_none reply new none) ∙ given-append new heard (rest_none reply new none))
+    ∙ append_assoc (given heard) (given new) (given_in reply)
+    ∙ ap (λ l. given heard ++ (l ++ given_in reply)) (sym (given-kept reply (turned new) (given new) (first_none reply new none)))
 
 -- the grants of what was given
 abbrev pub permits : List Given → List Permit
@@ -78,25 +78,25 @@ permits-append : (ones more : List Given) → permits (ones ++ more) ≡ permits
 permits-append [] more = refl
 permits-append (one ∷ ones) more = ap (λ (l : List Permit). one.permit ∷ l) (permits-append ones more)
 
-permits-in : (told : Reply) → grants_in told ≡ permits (given_in told)
-permits-in (reply.Quar (quarantine.Granted grant old)) = refl
+permits-in : (reply : Reply) → grants_in reply ≡ permits (given_in reply)
+permits-in (Reply.Quar (quarantine.Granted grant old)) = refl
 permits-in other = refl
 
-permits-by : (told : Reply) (place : ℕ) (ones : List Given) → granted_by told place (permits ones) ≡ permits (given_by told place ones)
-permits-by (reply.Raise (raising.Raised grant old)) place ones =
+permits-by : (reply : Reply) (place : ℕ) (ones : List Given) → granted_by reply place (permits ones) ≡ permits (given_by reply place ones)
+permits-by (Reply.Raise (raising.Raised grant old)) place ones =
     sym (map_set (λ (one : Given). one.permit) ones place (record { permit = grant; old = old }))
-permits-by (reply.Raise (raising.Shared grant holder)) place ones = refl
-permits-by (reply.Raise raising.Gone) place ones = sym (map_remove (λ (one : Given). one.permit) ones place)
+permits-by (Reply.Raise (raising.Shared grant holder)) place ones = refl
+permits-by (Reply.Raise raising.Gone) place ones = sym (map_remove (λ (one : Given). one.permit) ones place)
 permits-by other place ones = refl
 
 -- the grants that a session was given are those of what it was given
 pub granted-given : (heard : List Reply) → granted heard ≡ permits (given heard)
 granted-given [] = refl
-granted-given (told ∷ heard) =
-    ap (λ l. granted_by told (turned heard) l ++ grants_in told) (granted-given heard)
-    ∙ ap (λ l. l ++ grants_in told) (permits-by told (turned heard) (given heard))
-    ∙ ap (λ l. permits (given_by told (turned heard) (given heard)) ++ l) (permits-in told)
-    ∙ sym (permits-append (given_by told (turned heard) (given heard)) (given_in told))
+granted-given (reply ∷ heard) =
+    ap (λ l. granted_by reply (turned heard) l ++ grants_in reply) (granted-given heard)
+    ∙ ap (λ l. l ++ grants_in reply) (permits-by reply (turned heard) (given heard))
+    ∙ ap (λ l. permits (given_by reply (turned heard) (given heard)) ++ l) (permits-in reply)
+    ∙ sym (permits-append (given_by reply (turned heard) (given heard)) (given_in reply))
 
 some_same : {X : Type 0} {a b : X} → Some a ≡ Some b → a ≡ b
 some_same e = cc
@@ -115,30 +115,30 @@ record IsNumbered (b : Bool) (n : Option ℕ) : Type 0 where
   to : b ≡ false → n ≡ None
   from : n ≡ None → b ≡ false
 
-committed_told : (heard : List Reply) → IsNumbered (was_committed heard) (number_of heard)
-committed_told [] = record { to = λ _. refl; from = λ _. refl }
-committed_told (reply.Committed number txn grants ∷ heard) = record { to = λ e. cc; from = λ e. cc }
-committed_told (reply.Got found ∷ heard) = committed_told heard
-committed_told (reply.Answer answer ∷ heard) = committed_told heard
-committed_told (reply.Set told ∷ heard) = committed_told heard
-committed_told (reply.Quar told ∷ heard) = committed_told heard
-committed_told (reply.Staged value txn ∷ heard) = committed_told heard
-committed_told (reply.NotStaged fault txn ∷ heard) = committed_told heard
-committed_told (reply.NotCommitted fault txn grants ∷ heard) = committed_told heard
-committed_told (reply.End was ∷ heard) = committed_told heard
-committed_told (reply.Rel told ∷ heard) = committed_told heard
-committed_told (reply.SarBack grant ∷ heard) = committed_told heard
-committed_told (reply.Fault fault ∷ heard) = committed_told heard
-committed_told (reply.Raise told ∷ heard) = committed_told heard
-committed_told (reply.RaiseBack grant ∷ heard) = committed_told heard
-committed_told (reply.Renew grant told ∷ heard) = committed_told heard
-committed_told (reply.Nothing ∷ heard) = committed_told heard
+committed_heard : (heard : List Reply) → IsNumbered (was_committed heard) (number_of heard)
+committed_heard [] = record { to = λ _. refl; from = λ _. refl }
+committed_heard (Reply.Committed number txn grants ∷ heard) = record { to = λ e. cc; from = λ e. cc }
+committed_heard (Reply.Got found ∷ heard) = committed_heard heard
+committed_heard (Reply.Answer answer ∷ heard) = committed_heard heard
+committed_heard (Reply.Set answer ∷ heard) = committed_heard heard
+committed_heard (Reply.Quar answer ∷ heard) = committed_heard heard
+committed_heard (Reply.Staged value txn ∷ heard) = committed_heard heard
+committed_heard (Reply.NotStaged fault txn ∷ heard) = committed_heard heard
+committed_heard (Reply.NotCommitted fault txn grants ∷ heard) = committed_heard heard
+committed_heard (Reply.End was ∷ heard) = committed_heard heard
+committed_heard (Reply.Rel answer ∷ heard) = committed_heard heard
+committed_heard (Reply.SarBack grant ∷ heard) = committed_heard heard
+committed_heard (Reply.Fault fault ∷ heard) = committed_heard heard
+committed_heard (Reply.Raise answer ∷ heard) = committed_heard heard
+committed_heard (Reply.RaiseBack grant ∷ heard) = committed_heard heard
+committed_heard (Reply.Renew grant answer ∷ heard) = committed_heard heard
+committed_heard (Reply.Nothing ∷ heard) = committed_heard heard
 
 pub uncommitted-none : (heard : List Reply) → was_committed heard ≡ false → number_of heard ≡ None
-uncommitted-none heard = (committed_told heard).to
+uncommitted-none heard = (committed_heard heard).to
 
 pub none-uncommitted : (heard : List Reply) → number_of heard ≡ None → was_committed heard ≡ false
-none-uncommitted heard = (committed_told heard).from
+none-uncommitted heard = (committed_heard heard).from
 
 -- a session that has the number of a commit was told of it
 pub numbered-committed : (heard : List Reply) (number : ℕ) → number_of heard ≡ Some number → was_committed heard ≡ true
@@ -151,32 +151,32 @@ numbered-committed heard number e = by (was_committed heard) refl
 -- the session was told that it is committed or ended, that a grant of its is released, or that one came back
 abbrev pub is_ending : List Reply → Bool
 is_ending [] = false
-is_ending (reply.Committed number txn grants ∷ heard) = true
-is_ending (reply.End was ∷ heard) = true
-is_ending (reply.Rel told ∷ heard) = true
-is_ending (reply.SarBack grant ∷ heard) = true
+is_ending (Reply.Committed number txn grants ∷ heard) = true
+is_ending (Reply.End was ∷ heard) = true
+is_ending (Reply.Rel answer ∷ heard) = true
+is_ending (Reply.SarBack grant ∷ heard) = true
 is_ending (other ∷ heard) = false
 
 -- the session was told nothing yet, or that a quarantine stands
 abbrev pub is_asking : List Reply → Bool
 is_asking [] = true
-is_asking (told ∷ heard) = is_had told
+is_asking (reply ∷ heard) = is_had reply
 
 -- a session that is asking has not begun to end
 pub asking-goes : (heard : List Reply) → is_asking heard ≡ true → is_ending heard ≡ false
 asking-goes [] e = refl
-asking-goes (reply.Quar told ∷ heard) e = refl
-asking-goes (reply.Got found ∷ heard) e = refl
-asking-goes (reply.Answer answer ∷ heard) e = refl
-asking-goes (reply.Set told ∷ heard) e = refl
-asking-goes (reply.Staged value txn ∷ heard) e = refl
-asking-goes (reply.NotStaged fault txn ∷ heard) e = refl
-asking-goes (reply.NotCommitted fault txn grants ∷ heard) e = refl
-asking-goes (reply.Fault fault ∷ heard) e = refl
-asking-goes (reply.Raise told ∷ heard) e = refl
-asking-goes (reply.RaiseBack grant ∷ heard) e = refl
-asking-goes (reply.Renew grant told ∷ heard) e = refl
-asking-goes (reply.Nothing ∷ heard) e = refl
+asking-goes (Reply.Quar answer ∷ heard) e = refl
+asking-goes (Reply.Got found ∷ heard) e = refl
+asking-goes (Reply.Answer answer ∷ heard) e = refl
+asking-goes (Reply.Set answer ∷ heard) e = refl
+asking-goes (Reply.Staged value txn ∷ heard) e = refl
+asking-goes (Reply.NotStaged fault txn ∷ heard) e = refl
+asking-goes (Reply.NotCommitted fault txn grants ∷ heard) e = refl
+asking-goes (Reply.Fault fault ∷ heard) e = refl
+asking-goes (Reply.Raise answer ∷ heard) e = refl
+asking-goes (Reply.RaiseBack grant ∷ heard) e = refl
+asking-goes (Reply.Renew grant answer ∷ heard) e = refl
+asking-goes (Reply.Nothing ∷ heard) e = refl
 asking-goes (other ∷ heard) e = cc
 
 -- each key stands once among these
@@ -240,9 +240,9 @@ release_cases P writing short heard abort dar sar apply nothing = by heard refl
 
     finished : (one : Given) (number : ℕ) → slice_get (given heard) (released heard) ≡ Some one
         → number_of heard ≡ Some number → (m : Mode) → one.permit.mode ≡ m → P (finish m writing.txn number one)
-    finished one number at told mode.Invalidate e = dar one at
-    finished one number at told mode.Refresh e = sar one number at told e
-    finished one number at told mode.Delta e = apply one number at told e
+    finished one number at numbered mode.Invalidate e = dar one at
+    finished one number at numbered mode.Refresh e = sar one number at numbered e
+    finished one number at numbered mode.Delta e = apply one number at numbered e
 
     keeps : number_of heard ≡ None → (o : Option Given) → slice_get (given heard) (released heard) ≡ o → P (release_of writing.txn Keeps o)
     keeps none (Some one) at = abort one at none
@@ -254,8 +254,8 @@ release_cases P writing short heard abort dar sar apply nothing = by heard refl
 
     finishes : (number : ℕ) → number_of heard ≡ Some number → (o : Option Given)
         → slice_get (given heard) (released heard) ≡ o → P (release_of writing.txn (Finishes number) o)
-    finishes number told (Some one) at = finished one number at told one.permit.mode refl
-    finishes number told None at = nothing
+    finishes number numbered (Some one) at = finished one number at numbered one.permit.mode refl
+    finishes number numbered None at = nothing
 
     after : (b : Bool) (n : Option ℕ) → number_of heard ≡ n → Result (release_after b n)
     after b None e = keeps e (slice_get (given heard) (released heard)) refl
@@ -267,22 +267,22 @@ release_cases P writing short heard abort dar sar apply nothing = by heard refl
 
     by : (l : List Reply) → heard ≡ l → Result (release_by short l)
     by [] e = kept [] refl e
-    by (reply.SarBack grant ∷ rest) e = drops (slice_get (given heard) (released heard)) refl
-    by (reply.Got found ∷ rest) e = kept (reply.Got found ∷ rest) refl e
-    by (reply.Answer answer ∷ rest) e = kept (reply.Answer answer ∷ rest) refl e
-    by (reply.Set told ∷ rest) e = kept (reply.Set told ∷ rest) refl e
-    by (reply.Quar told ∷ rest) e = kept (reply.Quar told ∷ rest) refl e
-    by (reply.Staged value txn ∷ rest) e = kept (reply.Staged value txn ∷ rest) refl e
-    by (reply.NotStaged fault txn ∷ rest) e = kept (reply.NotStaged fault txn ∷ rest) refl e
-    by (reply.Committed number txn grants ∷ rest) e = kept (reply.Committed number txn grants ∷ rest) refl e
-    by (reply.NotCommitted fault txn grants ∷ rest) e = kept (reply.NotCommitted fault txn grants ∷ rest) refl e
-    by (reply.End was ∷ rest) e = kept (reply.End was ∷ rest) refl e
-    by (reply.Rel told ∷ rest) e = kept (reply.Rel told ∷ rest) refl e
-    by (reply.Fault fault ∷ rest) e = kept (reply.Fault fault ∷ rest) refl e
-    by (reply.Raise told ∷ rest) e = kept (reply.Raise told ∷ rest) refl e
-    by (reply.RaiseBack grant ∷ rest) e = kept (reply.RaiseBack grant ∷ rest) refl e
-    by (reply.Renew grant told ∷ rest) e = kept (reply.Renew grant told ∷ rest) refl e
-    by (reply.Nothing ∷ rest) e = kept (reply.Nothing ∷ rest) refl e
+    by (Reply.SarBack grant ∷ rest) e = drops (slice_get (given heard) (released heard)) refl
+    by (Reply.Got found ∷ rest) e = kept (Reply.Got found ∷ rest) refl e
+    by (Reply.Answer answer ∷ rest) e = kept (Reply.Answer answer ∷ rest) refl e
+    by (Reply.Set answer ∷ rest) e = kept (Reply.Set answer ∷ rest) refl e
+    by (Reply.Quar answer ∷ rest) e = kept (Reply.Quar answer ∷ rest) refl e
+    by (Reply.Staged value txn ∷ rest) e = kept (Reply.Staged value txn ∷ rest) refl e
+    by (Reply.NotStaged fault txn ∷ rest) e = kept (Reply.NotStaged fault txn ∷ rest) refl e
+    by (Reply.Committed number txn grants ∷ rest) e = kept (Reply.Committed number txn grants ∷ rest) refl e
+    by (Reply.NotCommitted fault txn grants ∷ rest) e = kept (Reply.NotCommitted fault txn grants ∷ rest) refl e
+    by (Reply.End was ∷ rest) e = kept (Reply.End was ∷ rest) refl e
+    by (Reply.Rel answer ∷ rest) e = kept (Reply.Rel answer ∷ rest) refl e
+    by (Reply.Fault fault ∷ rest) e = kept (Reply.Fault fault ∷ rest) refl e
+    by (Reply.Raise answer ∷ rest) e = kept (Reply.Raise answer ∷ rest) refl e
+    by (Reply.RaiseBack grant ∷ rest) e = kept (Reply.RaiseBack grant ∷ rest) refl e
+    by (Reply.Renew grant answer ∷ rest) e = kept (Reply.Renew grant answer ∷ rest) refl e
+    by (Reply.Nothing ∷ rest) e = kept (Reply.Nothing ∷ rest) refl e
 
 -- what a writer wants: a quarantine, a commit, its own key, the store's answer after its transaction, or to be ended;
 -- a raise or a renewal of the next grant, one of four releases of it, or nothing
@@ -306,13 +306,13 @@ pub write_cases : (P : Wanted → Type 0) (writing : Writing) (short : Bool) (he
     → P wanted.Nothing → P (write_wants writing short heard)
 write_cases P writing short heard ask commit get staged end raise renew abort dar sar apply nothing = by heard refl
   where
-    due : (told : Reply) (rest : List Reply) → heard ≡ told ∷ rest → is_ending (told ∷ rest) ≡ true → P (release_next writing short (told ∷ rest))
-    due told rest e ending =
+    due : (reply : Reply) (rest : List Reply) → heard ≡ reply ∷ rest → is_ending (reply ∷ rest) ≡ true → P (release_next writing short (reply ∷ rest))
+    due reply rest e ending =
         let ends : is_ending heard ≡ true = ap is_ending e ∙ ending in
         subst (λ l. P (release_next writing short l)) e
         (release_cases P writing short heard (λ one at none. abort one at ends none)
-        (λ one at. dar one at ends) (λ one number at told fits. sar one number at ends told fits)
-        (λ one number at told fits. apply one number at ends told fits) nothing)
+        (λ one at. dar one at ends) (λ one number at reply fits. sar one number at ends reply fits)
+        (λ one number at reply fits. apply one number at ends reply fits) nothing)
 
     next : is_asking heard ≡ true → is_ending heard ≡ false → P (quarantine_next writing heard)
     next asks going = next_cases P writing heard (λ key at. ask key at asks) (commit going) (λ key looks none. get key looks asks none) (end going)
@@ -331,65 +331,65 @@ write_cases P writing short heard ask commit get staged end raise renew abort da
         let goes : is_ending heard ≡ false = ap is_ending e ∙ going in
         subst (λ l. P (renew_next writing l)) e (renew_cases P writing heard (λ grant at. renew grant at goes) (commit goes))
 
-    committing : (told : Reply) (rest : List Reply) → heard ≡ told ∷ rest
-        → is_ending (told ∷ rest) ≡ false → granted (told ∷ rest) ≡ granted rest → P (commit_with writing rest)
-    committing told rest e going same =
+    committing : (reply : Reply) (rest : List Reply) → heard ≡ reply ∷ rest
+        → is_ending (reply ∷ rest) ≡ false → granted (reply ∷ rest) ≡ granted rest → P (commit_with writing rest)
+    committing reply rest e going same =
         let all : granted heard ≡ granted rest = ap granted e ∙ same in
         subst (λ items. P (wanted.Commit writing.txn (record { items = items; room = length writing.keys }))) all (commit (ap is_ending e ∙ going))
 
-    looked : (found : Got) (rest : List Reply) → heard ≡ reply.Got found ∷ rest → (next : Then) → writing.next ≡ next → P (look_after next writing found rest)
+    looked : (found : Got) (rest : List Reply) → heard ≡ Reply.Got found ∷ rest → (next : Then) → writing.next ≡ next → P (look_after next writing found rest)
     looked got.Own rest e (Looks key) looks = staged key looks (ap is_ending e)
-    looked (got.Hit value stamp) rest e (Looks key) looks = committing (reply.Got (got.Hit value stamp)) rest e refl (append-nil (granted rest))
-    looked (got.Lease token) rest e (Looks key) looks = committing (reply.Got (got.Lease token)) rest e refl (append-nil (granted rest))
-    looked (got.Again stands) rest e (Looks key) looks = committing (reply.Got (got.Again stands)) rest e refl (append-nil (granted rest))
-    looked found rest e Commits looks = committing (reply.Got found) rest e refl (append-nil (granted rest))
-    looked found rest e Quits looks = committing (reply.Got found) rest e refl (append-nil (granted rest))
-    looked found rest e Raises looks = committing (reply.Got found) rest e refl (append-nil (granted rest))
-    looked found rest e Renews looks = committing (reply.Got found) rest e refl (append-nil (granted rest))
+    looked (got.Hit value stamp) rest e (Looks key) looks = committing (Reply.Got (got.Hit value stamp)) rest e refl (append-nil (granted rest))
+    looked (got.Lease token) rest e (Looks key) looks = committing (Reply.Got (got.Lease token)) rest e refl (append-nil (granted rest))
+    looked (got.Again stands) rest e (Looks key) looks = committing (Reply.Got (got.Again stands)) rest e refl (append-nil (granted rest))
+    looked found rest e Commits looks = committing (Reply.Got found) rest e refl (append-nil (granted rest))
+    looked found rest e Quits looks = committing (Reply.Got found) rest e refl (append-nil (granted rest))
+    looked found rest e Raises looks = committing (Reply.Got found) rest e refl (append-nil (granted rest))
+    looked found rest e Renews looks = committing (Reply.Got found) rest e refl (append-nil (granted rest))
 
-    faulty : (fault : Fault) (rest : List Reply) → heard ≡ reply.Fault fault ∷ rest → (b : Bool) → P (after_fault b writing rest)
-    faulty fault rest e true = committing (reply.Fault fault) rest e refl (append-nil (granted rest))
+    faulty : (fault : Fault) (rest : List Reply) → heard ≡ Reply.Fault fault ∷ rest → (b : Bool) → P (after_fault b writing rest)
+    faulty fault rest e true = committing (Reply.Fault fault) rest e refl (append-nil (granted rest))
     faulty fault rest e false = end (ap is_ending e)
 
     by : (l : List Reply) → heard ≡ l → P (write_wants writing short l)
     by [] e = more [] e refl refl
-    by (reply.Quar (quarantine.Granted grant old) ∷ rest) e = more (reply.Quar (quarantine.Granted grant old) ∷ rest) e refl refl
-    by (reply.Quar quarantine.Held ∷ rest) e = more (reply.Quar quarantine.Held ∷ rest) e refl refl
-    by (reply.Quar (quarantine.Refused holder held) ∷ rest) e = end (ap is_ending e)
-    by (reply.Fault fault ∷ rest) e = faulty fault rest e (has_all writing rest)
-    by (reply.Got found ∷ rest) e = looked found rest e writing.next refl
-    by (reply.Staged value txn ∷ rest) e = committing (reply.Staged value txn) rest e refl (append-nil (granted rest))
-    by (reply.NotStaged fault txn ∷ rest) e = committing (reply.NotStaged fault txn) rest e refl (append-nil (granted rest))
-    by (reply.Raise told ∷ rest) e = raises (reply.Raise told ∷ rest) e refl
-    by (reply.RaiseBack grant ∷ rest) e = raises (reply.RaiseBack grant ∷ rest) e refl
-    by (reply.Renew grant told ∷ rest) e = renews (reply.Renew grant told ∷ rest) e refl
-    by (reply.NotCommitted fault txn grants ∷ rest) e = end (ap is_ending e)
-    by (reply.Committed number txn grants ∷ rest) e = due (reply.Committed number txn grants) rest e refl
-    by (reply.End was ∷ rest) e = due (reply.End was) rest e refl
-    by (reply.Rel told ∷ rest) e = due (reply.Rel told) rest e refl
-    by (reply.SarBack grant ∷ rest) e = due (reply.SarBack grant) rest e refl
-    by (reply.Answer answer ∷ rest) e = nothing
-    by (reply.Set told ∷ rest) e = nothing
-    by (reply.Nothing ∷ rest) e = nothing
+    by (Reply.Quar (quarantine.Granted grant old) ∷ rest) e = more (Reply.Quar (quarantine.Granted grant old) ∷ rest) e refl refl
+    by (Reply.Quar quarantine.Held ∷ rest) e = more (Reply.Quar quarantine.Held ∷ rest) e refl refl
+    by (Reply.Quar (quarantine.Refused holder held) ∷ rest) e = end (ap is_ending e)
+    by (Reply.Fault fault ∷ rest) e = faulty fault rest e (has_all writing rest)
+    by (Reply.Got found ∷ rest) e = looked found rest e writing.next refl
+    by (Reply.Staged value txn ∷ rest) e = committing (Reply.Staged value txn) rest e refl (append-nil (granted rest))
+    by (Reply.NotStaged fault txn ∷ rest) e = committing (Reply.NotStaged fault txn) rest e refl (append-nil (granted rest))
+    by (Reply.Raise answer ∷ rest) e = raises (Reply.Raise answer ∷ rest) e refl
+    by (Reply.RaiseBack grant ∷ rest) e = raises (Reply.RaiseBack grant ∷ rest) e refl
+    by (Reply.Renew grant answer ∷ rest) e = renews (Reply.Renew grant answer ∷ rest) e refl
+    by (Reply.NotCommitted fault txn grants ∷ rest) e = end (ap is_ending e)
+    by (Reply.Committed number txn grants ∷ rest) e = due (Reply.Committed number txn grants) rest e refl
+    by (Reply.End was ∷ rest) e = due (Reply.End was) rest e refl
+    by (Reply.Rel answer ∷ rest) e = due (Reply.Rel answer) rest e refl
+    by (Reply.SarBack grant ∷ rest) e = due (Reply.SarBack grant) rest e refl
+    by (Reply.Answer answer ∷ rest) e = nothing
+    by (Reply.Set answer ∷ rest) e = nothing
+    by (Reply.Nothing ∷ rest) e = nothing
 
 -- what a reader wants: what it sets is an answer that followed a lease
 set_cases : (P : Wanted → Type 0) (key : QKey) (answer : Answer) (heard : List Reply)
-    → ((token : ℕ) (rest : List Reply) → heard ≡ reply.Got (got.Lease token) ∷ rest → P (wanted.Set key token answer.value answer.stamp)) → P wanted.Nothing
+    → ((token : ℕ) (rest : List Reply) → heard ≡ Reply.Got (got.Lease token) ∷ rest → P (wanted.Set key token answer.value answer.stamp)) → P wanted.Nothing
     → P (set_after key answer heard)
-set_cases P key answer (reply.Got (got.Lease token) ∷ heard) set nothing = set token heard refl
+set_cases P key answer (Reply.Got (got.Lease token) ∷ heard) set nothing = set token heard refl
 set_cases P key answer heard set nothing = nothing
 
 pub read_cases : (P : Wanted → Type 0) (key : QKey) (floor : ℕ) (heard : List Reply) → P (wanted.Get key floor) → P (wanted.Ask key)
-    → ((token : ℕ) (answer : Answer) (rest : List Reply) → heard ≡ reply.Answer answer ∷ reply.Got (got.Lease token) ∷ rest
+    → ((token : ℕ) (answer : Answer) (rest : List Reply) → heard ≡ Reply.Answer answer ∷ Reply.Got (got.Lease token) ∷ rest
     → P (wanted.Set key token answer.value answer.stamp))
     → P wanted.Nothing → P (read_wants key floor heard)
 read_cases P key floor [] get ask set nothing = get
-read_cases P key floor (reply.Got (got.Lease token) ∷ heard) get ask set nothing = ask
-read_cases P key floor (reply.Got (got.Again stands) ∷ heard) get ask set nothing =
+read_cases P key floor (Reply.Got (got.Lease token) ∷ heard) get ask set nothing = ask
+read_cases P key floor (Reply.Got (got.Again stands) ∷ heard) get ask set nothing =
     cond_both (nat_lt (agains heard + 1) 16) (wanted.Get key floor) (wanted.Ask key) P (λ _. get) (λ _. ask)
-read_cases P key floor (reply.Got got.Own ∷ heard) get ask set nothing = ask
-read_cases P key floor (reply.Answer answer ∷ heard) get ask set nothing =
-    set_cases P key answer heard (λ token rest e. set token answer rest (ap (λ l. reply.Answer answer ∷ l) e)) nothing
+read_cases P key floor (Reply.Got got.Own ∷ heard) get ask set nothing = ask
+read_cases P key floor (Reply.Answer answer ∷ heard) get ask set nothing =
+    set_cases P key answer heard (λ token rest e. set token answer rest (ap (λ l. Reply.Answer answer ∷ l) e)) nothing
 read_cases P key floor (other ∷ heard) get ask set nothing = nothing
 
 -- keys that ascend stand once each

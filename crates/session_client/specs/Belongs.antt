@@ -15,7 +15,7 @@ use Rattle.session_client.specs.Grants.{GrantsView}
 use Rattle.session_client.specs.declared.replies.Fault.{Fault}
 use Rattle.session_client.specs.declared.replies.Fault.TheVariants as faults
 use Rattle.session_client.specs.declared.replies.Reply.{Reply}
-use Rattle.session_client.specs.declared.replies.Reply.TheVariants as reply
+use Rattle.session_client.specs.declared.replies.Reply.TheVariants as Reply
 use Rattle.session_client.specs.declared.replies.Wanted.{Wanted}
 use Rattle.session_client.specs.declared.replies.Wanted.TheVariants as wanted
 
@@ -75,32 +75,32 @@ pub record AreBack (lent back : GrantsView) : Type 0 where
 
 -- The reply belongs to the request of this session.
 abbrev pub Belongs : Sid → Wanted → Reply → Type 0
-Belongs who (wanted.Get key floor) (reply.Got told) = IsGotOf floor told
-Belongs who (wanted.Get key floor) (reply.Fault fault) = IsShardFault fault
-Belongs who (wanted.Ask key) (reply.Answer answer) = answer.key ≡ key
-Belongs who (wanted.Ask key) (reply.Fault fault) = IsStoreFault fault
-Belongs who (wanted.Set key token value stamp) (reply.Set told) = Unit {0}
-Belongs who (wanted.Set key token value stamp) (reply.Fault fault) = fault ≡ faults.Memory
-Belongs who (wanted.Staged key txn) (reply.Staged value changes) = changes ≡ txn
-Belongs who (wanted.Staged key txn) (reply.NotStaged fault changes) = changes ≡ txn
-Belongs who (wanted.QaReg key) (reply.Quar told) = IsQuarantineOf who key Invalidate told
-Belongs who (wanted.QaReg key) (reply.Fault fault) = IsShardFault fault
-Belongs who (wanted.QaRead key) (reply.Quar told) = IsQuarantineOf who key Refresh told
-Belongs who (wanted.QaRead key) (reply.Fault fault) = IsShardFault fault
-Belongs who (wanted.Delta key by) (reply.Quar told) = IsQuarantineOf who key Delta told
-Belongs who (wanted.Delta key by) (reply.Fault fault) = IsShardFault fault
-Belongs who (wanted.Raise grant) (reply.Raise told) = IsRaiseOf grant told
-Belongs who (wanted.Raise grant) (reply.RaiseBack back) = back ≡ grant
-Belongs who (wanted.Renew grant) (reply.Renew back told) = back ≡ grant
-Belongs who (wanted.Commit txn grants) (reply.Committed number changes back) =
+Belongs who (wanted.Get key floor) (Reply.Got answer) = IsGotOf floor answer
+Belongs who (wanted.Get key floor) (Reply.Fault fault) = IsShardFault fault
+Belongs who (wanted.Ask key) (Reply.Answer answer) = answer.key ≡ key
+Belongs who (wanted.Ask key) (Reply.Fault fault) = IsStoreFault fault
+Belongs who (wanted.Set key token value stamp) (Reply.Set answer) = Unit {0}
+Belongs who (wanted.Set key token value stamp) (Reply.Fault fault) = fault ≡ faults.Memory
+Belongs who (wanted.Staged key txn) (Reply.Staged value changes) = changes ≡ txn
+Belongs who (wanted.Staged key txn) (Reply.NotStaged fault changes) = changes ≡ txn
+Belongs who (wanted.QaReg key) (Reply.Quar answer) = IsQuarantineOf who key Invalidate answer
+Belongs who (wanted.QaReg key) (Reply.Fault fault) = IsShardFault fault
+Belongs who (wanted.QaRead key) (Reply.Quar answer) = IsQuarantineOf who key Refresh answer
+Belongs who (wanted.QaRead key) (Reply.Fault fault) = IsShardFault fault
+Belongs who (wanted.Delta key by) (Reply.Quar answer) = IsQuarantineOf who key Delta answer
+Belongs who (wanted.Delta key by) (Reply.Fault fault) = IsShardFault fault
+Belongs who (wanted.Raise grant) (Reply.Raise answer) = IsRaiseOf grant answer
+Belongs who (wanted.Raise grant) (Reply.RaiseBack back) = back ≡ grant
+Belongs who (wanted.Renew grant) (Reply.Renew back answer) = back ≡ grant
+Belongs who (wanted.Commit txn grants) (Reply.Committed number changes back) =
     (changes ≡ txn) × AreBack grants back
-Belongs who (wanted.Commit txn grants) (reply.NotCommitted fault changes back) =
+Belongs who (wanted.Commit txn grants) (Reply.NotCommitted fault changes back) =
     (changes ≡ txn) × AreBack grants back
-Belongs who wanted.End (reply.End was) = Unit {0}
-Belongs who (wanted.Dar grant) (reply.Rel told) = Unit {0}
-Belongs who (wanted.Sar grant value stamp) (reply.Rel told) = Unit {0}
-Belongs who (wanted.Sar grant (Some value) stamp) (reply.SarBack back) = back ≡ grant
-Belongs who (wanted.Apply grant stamp) (reply.Rel told) = Unit {0}
-Belongs who (wanted.Abort grant) (reply.Rel told) = Unit {0}
-Belongs who wanted.Nothing reply.Nothing = Unit {0}
-Belongs who request told = ⊥
+Belongs who wanted.End (Reply.End was) = Unit {0}
+Belongs who (wanted.Dar grant) (Reply.Rel answer) = Unit {0}
+Belongs who (wanted.Sar grant value stamp) (Reply.Rel answer) = Unit {0}
+Belongs who (wanted.Sar grant (Some value) stamp) (Reply.SarBack back) = back ≡ grant
+Belongs who (wanted.Apply grant stamp) (Reply.Rel answer) = Unit {0}
+Belongs who (wanted.Abort grant) (Reply.Rel answer) = Unit {0}
+Belongs who wanted.Nothing Reply.Nothing = Unit {0}
+Belongs who request reply = ⊥

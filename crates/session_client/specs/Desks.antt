@@ -8,13 +8,13 @@ use Rattle.lease_table.specs.declared.records.Mode.TheVariants as mode
 use Rattle.session_client.specs.declared.replies.Fault.{Fault}
 use Rattle.session_client.specs.declared.replies.Fault.TheVariants as fault
 use Rattle.session_client.specs.declared.replies.Reply.{Reply}
-use Rattle.session_client.specs.declared.replies.Reply.TheVariants as reply
+use Rattle.session_client.specs.declared.replies.Reply.TheVariants as Reply
 use Rattle.session_client.specs.declared.replies.Wanted.{Wanted}
 use Rattle.session_client.specs.declared.replies.Wanted.TheVariants as wanted
 
 -- A list with one more member. One that isn't told stays untold.
 abbrev pub with_member : {X : Type 0} → X → Option (List X) → Option (List X)
-with_member member (Some told) = Some (member ∷ told)
+with_member member (Some members) = Some (member ∷ members)
 with_member member None = None
 
 -- One more than a count. One that isn't told stays untold.
@@ -24,7 +24,7 @@ one_more None = None
 
 -- The member is not in the list, where that is told.
 abbrev pub IsNew : {X : Type 0} → X → Option (List X) → Type 0
-IsNew member told = ForSome told (λ members. All (λ other. other ≢ member) members)
+IsNew member listed = ForSome listed (λ members. All (λ other. other ≢ member) members)
 
 -- The first so many sessions, numbered from 1.
 abbrev pub sids_to : ℕ → List Sid
@@ -41,13 +41,13 @@ IsProper (wanted.Raise grant) = grant.mode ≡ mode.Invalidate
 IsProper other = Unit {0}
 
 -- A call that a desk answered: a session began, to write or to read, with this number; or a session's request was given this reply.
-pub data Call : Type 0 where
-  Began : (writes : Bool) (who : Sid) → Call
-  Asked : (who : Sid) (request : Wanted) (told : Reply) → Call
+pub data Exchange : Type 0 where
+  Began : (writes : Bool) (who : Sid) → Exchange
+  Asked : (who : Sid) (request : Wanted) (reply : Reply) → Exchange
 
 -- The session is in the list, which is told.
 abbrev pub IsIn : Sid → Option (List Sid) → Type 0
-IsIn who (Some told) = IsTrue (list_any (λ other. other.number == who.number) told)
+IsIn who (Some members) = IsTrue (list_any (λ other. other.number == who.number) members)
 IsIn who None = ⊥
 
 -- Each session of the first list, where that is told, is in the second.
@@ -69,5 +69,5 @@ IsFirst writes other = ⊥
 -- Such a request of the session that the desk began last doesn't fail at the keeper; and a step has named the session
 -- afterwards, unless it was answered with a fault.
 abbrev pub BeginsSeen : Option (Sid × Bool) → Sid → Wanted → Reply → Option (List Sid) → Type 0
-BeginsSeen latest who request told seen = ForSome latest (λ first. first.0 ≡ who → IsFirst first.1 request
-    → (told ≢ reply.Fault fault.Keep) × (((cause : Fault) × (told ≡ reply.Fault cause)) ⊎ IsIn who seen))
+BeginsSeen latest who request reply seen = ForSome latest (λ first. first.0 ≡ who → IsFirst first.1 request
+    → (reply ≢ Reply.Fault fault.Keep) × (((cause : Fault) × (reply ≡ Reply.Fault cause)) ⊎ IsIn who seen))

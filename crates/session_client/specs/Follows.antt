@@ -20,7 +20,7 @@ use Rattle.session_client.specs.declared.plans.Plan.TheVariants.{Read}
 use Rattle.session_client.specs.declared.replies.Fault.TheVariants as faults
 use Rattle.session_client.specs.declared.replies.Outcome.{Outcome}
 use Rattle.session_client.specs.declared.replies.Reply.{Reply}
-use Rattle.session_client.specs.declared.replies.Reply.TheVariants as reply
+use Rattle.session_client.specs.declared.replies.Reply.TheVariants as Reply
 use Rattle.session_client.specs.declared.replies.Wanted.{Wanted}
 use Rattle.session_client.specs.declared.replies.Wanted.TheVariants as wanted
 use Rattle.session_client.specs.declared.readers.Reader.{Reader}
@@ -63,19 +63,19 @@ ReadIsReady stage = Unit {0}
 
 -- The replies to a get with this floor.
 abbrev pub GetAwaits : ℕ → Reply → Type 0
-GetAwaits floor (reply.Got told) = IsGotOf floor told
-GetAwaits floor (reply.Fault fault) = IsShardFault fault
-GetAwaits floor told = ⊥
+GetAwaits floor (Reply.Got answer) = IsGotOf floor answer
+GetAwaits floor (Reply.Fault fault) = IsShardFault fault
+GetAwaits floor reply = ⊥
 
 -- The replies to the request that a reader of this key and floor has out.
 abbrev pub ReadAwaits : QKey → ℕ → ReadStage → Reply → Type 0
-ReadAwaits key floor (reads.Getting count) told = GetAwaits floor told
-ReadAwaits key floor (reads.Asking lease) (reply.Answer answer) = answer.key ≡ key
-ReadAwaits key floor (reads.Asking lease) (reply.Fault fault) = IsStoreFault fault
-ReadAwaits key floor reads.Storing (reply.Set told) = Unit {0}
-ReadAwaits key floor reads.Storing (reply.Fault fault) = fault ≡ faults.Memory
-ReadAwaits key floor (reads.Done ended) reply.Nothing = Unit {0}
-ReadAwaits key floor stage told = ⊥
+ReadAwaits key floor (reads.Getting count) reply = GetAwaits floor reply
+ReadAwaits key floor (reads.Asking lease) (Reply.Answer answer) = answer.key ≡ key
+ReadAwaits key floor (reads.Asking lease) (Reply.Fault fault) = IsStoreFault fault
+ReadAwaits key floor reads.Storing (Reply.Set answer) = Unit {0}
+ReadAwaits key floor reads.Storing (Reply.Fault fault) = fault ≡ faults.Memory
+ReadAwaits key floor (reads.Done ended) Reply.Nothing = Unit {0}
+ReadAwaits key floor stage reply = ⊥
 
 -- Nothing is decided yet: the writer has each grant that it was given, the old value beside each, and no outcome.
 abbrev pub IsOpen : Writing → HandView → Bool → List Reply → Type 0
@@ -165,64 +165,64 @@ WriteIsReady stage = Unit {0}
 
 -- The answers to the quarantine of a key that is wanted, if one is, by a writer in this mode.
 abbrev pub QuarantineAwaits : Sid → Mode → Option QKey → Reply → Type 0
-QuarantineAwaits who mode (Some key) (reply.Quar told) = IsQuarantineOf who key (mode_on mode key) told
-QuarantineAwaits who mode (Some key) (reply.Fault fault) = IsShardFault fault
-QuarantineAwaits who mode key told = ⊥
+QuarantineAwaits who mode (Some key) (Reply.Quar answer) = IsQuarantineOf who key (mode_on mode key) answer
+QuarantineAwaits who mode (Some key) (Reply.Fault fault) = IsShardFault fault
+QuarantineAwaits who mode key reply = ⊥
 
 -- The replies to the question what the store would answer after this transaction.
 abbrev pub StagedAwaits : List Change → Reply → Type 0
-StagedAwaits changes (reply.Staged value txn) = txn ≡ changes
-StagedAwaits changes (reply.NotStaged fault txn) = txn ≡ changes
-StagedAwaits changes told = ⊥
+StagedAwaits changes (Reply.Staged value txn) = txn ≡ changes
+StagedAwaits changes (Reply.NotStaged fault txn) = txn ≡ changes
+StagedAwaits changes reply = ⊥
 
 -- The replies to a raise of this grant.
 abbrev pub RaiseAwaits : Option Permit → Reply → Type 0
-RaiseAwaits (Some lent) (reply.Raise told) = IsRaiseOf lent told
-RaiseAwaits (Some lent) (reply.RaiseBack grant) = grant ≡ lent
-RaiseAwaits lent told = ⊥
+RaiseAwaits (Some lent) (Reply.Raise answer) = IsRaiseOf lent answer
+RaiseAwaits (Some lent) (Reply.RaiseBack grant) = grant ≡ lent
+RaiseAwaits lent reply = ⊥
 
 -- The replies to a renewal of this grant.
 abbrev pub RenewAwaits : Option Permit → Reply → Type 0
-RenewAwaits (Some lent) (reply.Renew grant told) = grant ≡ lent
-RenewAwaits lent told = ⊥
+RenewAwaits (Some lent) (Reply.Renew grant answer) = grant ≡ lent
+RenewAwaits lent reply = ⊥
 
 -- The answers to a commit of this transaction with these grants.
 abbrev pub CommitAwaits : List Change → GrantsView → Reply → Type 0
-CommitAwaits changes lent (reply.Committed number txn grants) = (txn ≡ changes) × AreBack lent grants
-CommitAwaits changes lent (reply.NotCommitted fault txn grants) = (txn ≡ changes) × AreBack lent grants
-CommitAwaits changes lent told = ⊥
+CommitAwaits changes lent (Reply.Committed number txn grants) = (txn ≡ changes) × AreBack lent grants
+CommitAwaits changes lent (Reply.NotCommitted fault txn grants) = (txn ≡ changes) × AreBack lent grants
+CommitAwaits changes lent reply = ⊥
 
 -- The answers to a release of a grant, which may come back where it is named.
 abbrev pub ReleaseAwaits : Option Permit → Reply → Type 0
-ReleaseAwaits back (reply.Rel told) = Unit {0}
-ReleaseAwaits back (reply.SarBack grant) = back ≡ Some grant
-ReleaseAwaits back told = ⊥
+ReleaseAwaits back (Reply.Rel answer) = Unit {0}
+ReleaseAwaits back (Reply.SarBack grant) = back ≡ Some grant
+ReleaseAwaits back reply = ⊥
 
 -- The replies to the request that a writer of this transaction has out.
 abbrev pub StageAwaits : Sid → Writing → List Permit → WriteStage → Reply → Type 0
-StageAwaits who writing given (writes.Quarantining count txn) told =
-    QuarantineAwaits who writing.mode (slice_get writing.keys count) told
-StageAwaits who writing given (writes.Getting key txn) told = GetAwaits 0 told
-StageAwaits who writing given writes.Asking told = StagedAwaits writing.txn told
-StageAwaits who writing given (writes.Raised place txn) told = RaiseAwaits (slice_get given place) told
-StageAwaits who writing given (writes.Renewed place txn) told = RenewAwaits (slice_get given place) told
-StageAwaits who writing given writes.Committing told =
-    CommitAwaits writing.txn (record { items = given; room = length writing.keys }) told
-StageAwaits who writing given (writes.Ending ended) (reply.End was) = Unit {0}
-StageAwaits who writing given (writes.Returning ended how back) told = ReleaseAwaits back told
-StageAwaits who writing given (writes.Done ended) reply.Nothing = Unit {0}
-StageAwaits who writing given stage told = ⊥
+StageAwaits who writing given (writes.Quarantining count txn) reply =
+    QuarantineAwaits who writing.mode (slice_get writing.keys count) reply
+StageAwaits who writing given (writes.Getting key txn) reply = GetAwaits 0 reply
+StageAwaits who writing given writes.Asking reply = StagedAwaits writing.txn reply
+StageAwaits who writing given (writes.Raised place txn) reply = RaiseAwaits (slice_get given place) reply
+StageAwaits who writing given (writes.Renewed place txn) reply = RenewAwaits (slice_get given place) reply
+StageAwaits who writing given writes.Committing reply =
+    CommitAwaits writing.txn (record { items = given; room = length writing.keys }) reply
+StageAwaits who writing given (writes.Ending ended) (Reply.End was) = Unit {0}
+StageAwaits who writing given (writes.Returning ended how back) reply = ReleaseAwaits back reply
+StageAwaits who writing given (writes.Done ended) Reply.Nothing = Unit {0}
+StageAwaits who writing given stage reply = ⊥
 
 -- The replies to the request that a writer of these changes has out.
 abbrev pub WriteAwaits : Sid → List Change → WriterView → Reply → Type 0
-WriteAwaits who changes writer told = StageAwaits who (writing_as writer changes) writer.hand.given writer.stage told
+WriteAwaits who changes writer reply = StageAwaits who (writing_as writer changes) writer.hand.given writer.stage reply
 
 -- A session of this plan goes its course: a reader has the plan's key and floor, and a writer's wants are those of the plan.
 abbrev pub Goes : Plan → Course → Bool → List Reply → Type 0
 Goes plan (course.Read reader) short heard = (plan ≡ Read reader.key reader.floor) × ReadFollows reader heard
 Goes plan (course.Write writer) short heard =
-    ((short : Bool) (told : List Reply) → wants plan short told ≡ write_wants (writing_as writer (changes_of plan)) short told)
-    × ((short : Bool) (told : List Reply) → outcome_of plan short told ≡ writing_outcome (writing_as writer (changes_of plan)) short told)
+    ((short : Bool) (replies : List Reply) → wants plan short replies ≡ write_wants (writing_as writer (changes_of plan)) short replies)
+    × ((short : Bool) (replies : List Reply) → outcome_of plan short replies ≡ writing_outcome (writing_as writer (changes_of plan)) short replies)
     × WriteFollows (changes_of plan) writer short heard
 
 -- Nothing is out that a course handed over.
@@ -232,8 +232,8 @@ CourseIsReady (course.Write writer) = WriteIsReady writer.stage
 
 -- The replies to the request that is out.
 abbrev pub CourseAwaits : Sid → Plan → Course → Reply → Type 0
-CourseAwaits who plan (course.Read reader) told = ReadAwaits reader.key reader.floor reader.stage told
-CourseAwaits who plan (course.Write writer) told = WriteAwaits who (changes_of plan) writer told
+CourseAwaits who plan (course.Read reader) reply = ReadAwaits reader.key reader.floor reader.stage reply
+CourseAwaits who plan (course.Write writer) reply = WriteAwaits who (changes_of plan) writer reply
 
 -- Whether a reader is at its end.
 abbrev pub read_is_over : ReadStage → Bool
@@ -268,10 +268,10 @@ Follows session short heard = Goes session.plan session.course short heard
 
 -- The reply tells of a commit and brings a grant to refresh.
 abbrev pub IsRefreshing : Reply → Type 0
-IsRefreshing (reply.Committed number txn grants) = Any (λ (grant : Permit). grant.mode ≡ Refresh) grants.items
-IsRefreshing told = ⊥
+IsRefreshing (Reply.Committed number txn grants) = Any (λ (grant : Permit). grant.mode ≡ Refresh) grants.items
+IsRefreshing reply = ⊥
 
 -- The reply belongs to the request of the session that is out.
 abbrev pub IsAwaited : Session → Reply → Type 0
-IsAwaited session told =
-    IsTrue (session.out || is_over session.course) × CourseAwaits session.sid session.plan session.course told
+IsAwaited session reply =
+    IsTrue (session.out || is_over session.course) × CourseAwaits session.sid session.plan session.course reply

@@ -18,7 +18,7 @@ use Rattle.session_client.specs.declared.plans.Plan.{Plan}
 use Rattle.session_client.specs.declared.plans.Plan.TheVariants.{Read, Write, Look, Quit, Skip, Raise, Renew}
 use Rattle.session_client.specs.declared.replies.Fault.TheVariants as causes
 use Rattle.session_client.specs.declared.replies.Reply.{Reply}
-use Rattle.session_client.specs.declared.replies.Reply.TheVariants as reply
+use Rattle.session_client.specs.declared.replies.Reply.TheVariants as Reply
 use Rattle.session_client.specs.declared.replies.Wanted.{Wanted}
 use Rattle.session_client.specs.declared.replies.Wanted.TheVariants as wanted
 use Rattle.session_client.specs.declared.replies.Outcome.{Outcome}
@@ -27,7 +27,7 @@ use Rattle.session_client.specs.Plans.{changes_of, mode_of, mode_on, keys_of}
 
 -- Whether a session was told to try again.
 abbrev pub is_again : Reply → Bool
-is_again (reply.Got (got.Again standing)) = true
+is_again (Reply.Got (got.Again standing)) = true
 is_again other = false
 
 -- How often it was told so.
@@ -36,24 +36,24 @@ agains heard = count_by is_again heard
 
 -- An answer is stored where a lease was given before it, and under that lease.
 abbrev pub set_after : QKey → Answer → List Reply → Wanted
-set_after key answer (reply.Got (got.Lease token) ∷ heard) = wanted.Set key token answer.value answer.stamp
+set_after key answer (Reply.Got (got.Lease token) ∷ heard) = wanted.Set key token answer.value answer.stamp
 set_after key answer heard = wanted.Nothing
 
 -- A reader gets the key until it has it or a lease, asks the store after a lease, after 16
 -- Agains or where it has quarantined the key itself, and stores the answer under its lease.
 abbrev pub read_wants : QKey → ℕ → List Reply → Wanted
 read_wants key floor [] = wanted.Get key floor
-read_wants key floor (reply.Got (got.Lease token) ∷ heard) = wanted.Ask key
-read_wants key floor (reply.Got (got.Again standing) ∷ heard) =
+read_wants key floor (Reply.Got (got.Lease token) ∷ heard) = wanted.Ask key
+read_wants key floor (Reply.Got (got.Again standing) ∷ heard) =
     if nat_lt (agains heard + 1) 16 then wanted.Get key floor else wanted.Ask key
-read_wants key floor (reply.Got got.Own ∷ heard) = wanted.Ask key
-read_wants key floor (reply.Answer answer ∷ heard) = set_after key answer heard
+read_wants key floor (Reply.Got got.Own ∷ heard) = wanted.Ask key
+read_wants key floor (Reply.Answer answer ∷ heard) = set_after key answer heard
 read_wants key floor (other ∷ heard) = wanted.Nothing
 
 -- Whether a reply says that the quarantine that was asked for stands.
 abbrev pub is_had : Reply → Bool
-is_had (reply.Quar (quarantine.Granted grant old)) = true
-is_had (reply.Quar quarantine.Held) = true
+is_had (Reply.Quar (quarantine.Granted grant old)) = true
+is_had (Reply.Quar quarantine.Held) = true
 is_had other = false
 
 -- A grant and the old value that came along with it, with its stamp.
@@ -63,10 +63,10 @@ pub record Given : Type 0 where
 
 -- Whether a reply ends the turn of a grant that was to be raised or renewed, and that the session still has.
 abbrev pub is_turn : Reply → Bool
-is_turn (reply.Raise (raising.Raised grant old)) = true
-is_turn (reply.Raise (raising.Shared grant holder)) = true
-is_turn (reply.RaiseBack grant) = true
-is_turn (reply.Renew grant told) = true
+is_turn (Reply.Raise (raising.Raised grant old)) = true
+is_turn (Reply.Raise (raising.Shared grant holder)) = true
+is_turn (Reply.RaiseBack grant) = true
+is_turn (Reply.Renew grant answer) = true
 is_turn other = false
 
 -- How many such grants there were: the place of the next, from 0.
@@ -75,39 +75,39 @@ turned heard = count_by is_turn heard
 
 -- What was given, after a reply to the turn of the one at this place. A raised grant comes with the old value. One whose quarantine is gone is spent.
 abbrev pub given_by : Reply → ℕ → List Given → List Given
-given_by (reply.Raise (raising.Raised grant old)) place ones = set ones place (record { permit = grant; old = old })
-given_by (reply.Raise raising.Gone) place ones = remove ones place
+given_by (Reply.Raise (raising.Raised grant old)) place ones = set ones place (record { permit = grant; old = old })
+given_by (Reply.Raise raising.Gone) place ones = remove ones place
 given_by other place ones = ones
 
 -- What a reply gives, if it brings a new grant.
 abbrev pub given_in : Reply → List Given
-given_in (reply.Quar (quarantine.Granted grant old)) = record { permit = grant; old = old } ∷ []
+given_in (Reply.Quar (quarantine.Granted grant old)) = record { permit = grant; old = old } ∷ []
 given_in other = []
 
 -- What a session was given, in its order, without what a raise spent.
 abbrev pub given : List Reply → List Given
 given [] = []
-given (told ∷ heard) = given_by told (turned heard) (given heard) ++ given_in told
+given (reply ∷ heard) = given_by reply (turned heard) (given heard) ++ given_in reply
 
 -- The grants alone, after such a reply.
 abbrev pub granted_by : Reply → ℕ → List Permit → List Permit
-granted_by (reply.Raise (raising.Raised grant old)) place grants = set grants place grant
-granted_by (reply.Raise raising.Gone) place grants = remove grants place
+granted_by (Reply.Raise (raising.Raised grant old)) place grants = set grants place grant
+granted_by (Reply.Raise raising.Gone) place grants = remove grants place
 granted_by other place grants = grants
 
 -- The grant that a reply brings, if it brings a new one.
 abbrev pub grants_in : Reply → List Permit
-grants_in (reply.Quar (quarantine.Granted grant old)) = grant ∷ []
+grants_in (Reply.Quar (quarantine.Granted grant old)) = grant ∷ []
 grants_in other = []
 
 -- The grants that a session was given, in their order, without those that a raise spent.
 abbrev pub granted : List Reply → List Permit
 granted [] = []
-granted (told ∷ heard) = granted_by told (turned heard) (granted heard) ++ grants_in told
+granted (reply ∷ heard) = granted_by reply (turned heard) (granted heard) ++ grants_in reply
 
 -- Whether a reply is that of a release.
 abbrev pub is_release : Reply → Bool
-is_release (reply.Rel told) = true
+is_release (Reply.Rel answer) = true
 is_release other = false
 
 -- How many grants were released.
@@ -116,7 +116,7 @@ released heard = count_by is_release heard
 
 -- Whether a reply says that the transaction was committed.
 abbrev pub is_commit : Reply → Bool
-is_commit (reply.Committed number txn grants) = true
+is_commit (Reply.Committed number txn grants) = true
 is_commit other = false
 
 -- Whether the session was told so.
@@ -126,7 +126,7 @@ was_committed heard = list_any is_commit heard
 -- The number of the session's commit, if it was told of one.
 abbrev pub number_of : List Reply → Option ℕ
 number_of [] = None
-number_of (reply.Committed number txn grants ∷ heard) = Some number
+number_of (Reply.Committed number txn grants ∷ heard) = Some number
 number_of (other ∷ heard) = number_of heard
 
 -- What a session does once its keys are quarantined: it commits, gets a key first, quits, or raises or renews each quarantine first.
@@ -234,7 +234,7 @@ release_after false (Some number) = Finishes number
 
 -- A grant that came back, since there was no memory to put its new value, is released with its value dropped.
 abbrev pub release_by : Bool → List Reply → Release
-release_by short (reply.SarBack grant ∷ heard) = Drops
+release_by short (Reply.SarBack grant ∷ heard) = Drops
 release_by short heard = release_after short (number_of heard)
 
 -- The new value of a key: its old one refreshed by the transaction. There is none where there was no old value, or where it can't be refreshed.
@@ -265,25 +265,25 @@ release_next writing short heard =
 -- at the store first. The flag says that memory ran out when it was told of its commit.
 abbrev pub write_wants : Writing → Bool → List Reply → Wanted
 write_wants writing short [] = quarantine_next writing []
-write_wants writing short (reply.Quar (quarantine.Granted grant old) ∷ heard) =
-    quarantine_next writing (reply.Quar (quarantine.Granted grant old) ∷ heard)
-write_wants writing short (reply.Quar quarantine.Held ∷ heard) =
-    quarantine_next writing (reply.Quar quarantine.Held ∷ heard)
-write_wants writing short (reply.Quar (quarantine.Refused holder held) ∷ heard) = wanted.End
-write_wants writing short (reply.Fault fault ∷ heard) = after_fault (has_all writing heard) writing heard
-write_wants writing short (reply.Got found ∷ heard) = look_after writing.next writing found heard
-write_wants writing short (reply.Staged value txn ∷ heard) = commit_with writing heard
-write_wants writing short (reply.NotStaged fault txn ∷ heard) = commit_with writing heard
-write_wants writing short (reply.Raise told ∷ heard) = raise_next writing (reply.Raise told ∷ heard)
-write_wants writing short (reply.RaiseBack grant ∷ heard) = raise_next writing (reply.RaiseBack grant ∷ heard)
-write_wants writing short (reply.Renew grant told ∷ heard) = renew_next writing (reply.Renew grant told ∷ heard)
-write_wants writing short (reply.NotCommitted fault txn grants ∷ heard) = wanted.End
-write_wants writing short (reply.Committed number txn grants ∷ heard) =
-    release_next writing short (reply.Committed number txn grants ∷ heard)
-write_wants writing short (reply.End was ∷ heard) = release_next writing short (reply.End was ∷ heard)
-write_wants writing short (reply.Rel told ∷ heard) = release_next writing short (reply.Rel told ∷ heard)
-write_wants writing short (reply.SarBack grant ∷ heard) =
-    release_next writing short (reply.SarBack grant ∷ heard)
+write_wants writing short (Reply.Quar (quarantine.Granted grant old) ∷ heard) =
+    quarantine_next writing (Reply.Quar (quarantine.Granted grant old) ∷ heard)
+write_wants writing short (Reply.Quar quarantine.Held ∷ heard) =
+    quarantine_next writing (Reply.Quar quarantine.Held ∷ heard)
+write_wants writing short (Reply.Quar (quarantine.Refused holder held) ∷ heard) = wanted.End
+write_wants writing short (Reply.Fault fault ∷ heard) = after_fault (has_all writing heard) writing heard
+write_wants writing short (Reply.Got found ∷ heard) = look_after writing.next writing found heard
+write_wants writing short (Reply.Staged value txn ∷ heard) = commit_with writing heard
+write_wants writing short (Reply.NotStaged fault txn ∷ heard) = commit_with writing heard
+write_wants writing short (Reply.Raise answer ∷ heard) = raise_next writing (Reply.Raise answer ∷ heard)
+write_wants writing short (Reply.RaiseBack grant ∷ heard) = raise_next writing (Reply.RaiseBack grant ∷ heard)
+write_wants writing short (Reply.Renew grant answer ∷ heard) = renew_next writing (Reply.Renew grant answer ∷ heard)
+write_wants writing short (Reply.NotCommitted fault txn grants ∷ heard) = wanted.End
+write_wants writing short (Reply.Committed number txn grants ∷ heard) =
+    release_next writing short (Reply.Committed number txn grants ∷ heard)
+write_wants writing short (Reply.End was ∷ heard) = release_next writing short (Reply.End was ∷ heard)
+write_wants writing short (Reply.Rel answer ∷ heard) = release_next writing short (Reply.Rel answer ∷ heard)
+write_wants writing short (Reply.SarBack grant ∷ heard) =
+    release_next writing short (Reply.SarBack grant ∷ heard)
 write_wants writing short (other ∷ heard) = wanted.Nothing
 
 -- What a session of this plan wants. The flag says that memory ran out when it was told of its commit.
@@ -299,12 +299,12 @@ wants (Renew mode txn) short heard = write_wants (writing_of (Renew mode txn)) s
 -- How a reader ended, by the last reply that it was told; a turn of a session that is done tells nothing.
 abbrev pub read_outcome : List Reply → Option Outcome
 read_outcome [] = None
-read_outcome (reply.Nothing ∷ heard) = read_outcome heard
-read_outcome (reply.Got (got.Hit value stamp) ∷ heard) = Some outcome.Hit
-read_outcome (reply.Answer answer ∷ heard) = Some outcome.Bypass
-read_outcome (reply.Set (set.Stored evicted) ∷ heard) = Some outcome.Stored
-read_outcome (reply.Set set.Void ∷ heard) = Some outcome.Void
-read_outcome (reply.Fault fault ∷ heard) = Some (outcome.Failed fault)
+read_outcome (Reply.Nothing ∷ heard) = read_outcome heard
+read_outcome (Reply.Got (got.Hit value stamp) ∷ heard) = Some outcome.Hit
+read_outcome (Reply.Answer answer ∷ heard) = Some outcome.Bypass
+read_outcome (Reply.Set (set.Stored evicted) ∷ heard) = Some outcome.Stored
+read_outcome (Reply.Set set.Void ∷ heard) = Some outcome.Void
+read_outcome (Reply.Fault fault ∷ heard) = Some (outcome.Failed fault)
 read_outcome (other ∷ heard) = None
 
 -- A commit that was told without memory for the new values is a failure.
@@ -320,10 +320,10 @@ fault_outcome false failed before = Some failed
 -- How a writer ended: it was committed, refused, not committed, or a request of its was not made.
 abbrev pub write_outcome : Writing → Bool → List Reply → Option Outcome
 write_outcome writing short [] = None
-write_outcome writing short (reply.Committed number txn grants ∷ heard) = Some (commit_outcome short number)
-write_outcome writing short (reply.NotCommitted fault txn grants ∷ heard) = Some (outcome.NotCommitted fault)
-write_outcome writing short (reply.Quar (quarantine.Refused holder held) ∷ heard) = Some (outcome.Refused holder held)
-write_outcome writing short (reply.Fault fault ∷ heard) =
+write_outcome writing short (Reply.Committed number txn grants ∷ heard) = Some (commit_outcome short number)
+write_outcome writing short (Reply.NotCommitted fault txn grants ∷ heard) = Some (outcome.NotCommitted fault)
+write_outcome writing short (Reply.Quar (quarantine.Refused holder held) ∷ heard) = Some (outcome.Refused holder held)
+write_outcome writing short (Reply.Fault fault ∷ heard) =
     fault_outcome (has_all writing heard) (outcome.Failed fault) (write_outcome writing short heard)
 write_outcome writing short (other ∷ heard) = write_outcome writing short heard
 

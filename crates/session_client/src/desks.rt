@@ -1,9 +1,9 @@
 ghost use Rattle.std.specs.Prelude.{◌≡◌, ℕ, Bool, true, List, Option, None, IfOk, OnErr};
 ghost use Rattle.rows_model.specs.declared.keys.Sid.{Sid};
 ghost use Rattle.session_client.specs.declared.replies.Fault.TheVariants as fault;
-ghost use Rattle.session_client.specs.declared.replies.Reply.TheVariants as reply;
+ghost use Rattle.session_client.specs.declared.replies.Reply.TheVariants as Reply;
 ghost use Rattle.session_client.specs.Belongs.{Belongs};
-ghost use Rattle.session_client.specs.Desks.{IsNew, IsProper, Call, Began, Asked, with_member, one_more};
+ghost use Rattle.session_client.specs.Desks.{IsNew, IsProper, Exchange, Began, Asked, with_member, one_more};
 ghost use Rattle.session_client.specs.Desks.{AreIn, IsLatest, BeginsSeen};
 
 use crate::replies::{Reply, Wanted};
@@ -25,7 +25,7 @@ use rows_model::{Memory, Sid};
 pub trait Desk {
     ghost begun: { Self → Option (List Sid) };
 
-    ghost record_of: { Self → Option (List Call) } = { λ desk. None };
+    ghost record_of: { Self → Option (List Exchange) } = { λ desk. None };
 
     ghost seen: { Self → Option (List Sid) } = { λ desk. None };
 
@@ -65,7 +65,7 @@ pub trait Desk {
         ensures first { BeginsSeen (latest self.old) sid wanted result (seen self.new) }
         ensures seen_kept { AreIn (seen self.old) (seen self.new) }
         ensures seen_begun { AreIn (seen self.new) (begun self.new) }
-        ensures spent { result ≡ reply.Fault fault.Spent → is_spent self.new ≡ true }
+        ensures spent { result ≡ Reply.Fault fault.Spent → is_spent self.new ≡ true }
         ensures spent_kept { is_spent self.old ≡ true → is_spent self.new ≡ true };
 
     /// Takes one step of the desk's own sweep for leases that are due to be ended.

@@ -17,10 +17,10 @@ use key_shard::Got;
 use rows_model::{Change, QKey, Txn};
 
 /// Whether this is an answer to a get with this floor.
-fn is_got_of(floor: u64, told: &Got) -> bool
-    ensures { IsTrue result ↔ IsGotOf floor told.now }
+fn is_got_of(floor: u64, answer: &Got) -> bool
+    ensures { IsTrue result ↔ IsGotOf floor answer.now }
 {
-    match told {
+    match answer {
         Got::Hit { value: _, stamp } => floor <= *stamp,
         Got::Lease { .. } | Got::Again { .. } | Got::Own => true,
     }

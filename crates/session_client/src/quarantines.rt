@@ -30,8 +30,8 @@ fn mode_on(mode: Mode, key: &QKey) -> Mode
 /// The quarantine of a key by a writer of this mode and transaction.
 pub fn quarantine_as(mode: Mode, key: QKey, txn: &Txn) -> Wanted
     ensures wanted { result ≡ quarantine_as (mode_on mode key) key txn.now }
-    ensures awaits { (who : Sid) (told : Reply) →
-        QuarantineAwaits who mode (Some key) told ↔ Belongs who result told }
+    ensures awaits { (who : Sid) (reply : Reply) →
+        QuarantineAwaits who mode (Some key) reply ↔ Belongs who result reply }
     ensures proper { IsProper result }
 {
     match mode_on(mode, &key) {
@@ -50,7 +50,7 @@ pub fn answers_quarantine(who: Sid, mode: Mode, key: &QKey, reply: &Reply) -> bo
 {
     match reply {
         Reply::Quar {
-            told: QAnswer::Granted { grant, old },
+            answer: QAnswer::Granted { grant, old },
         } => {
             let mode = mode_on(mode, key);
             grant.key() == *key
@@ -99,23 +99,23 @@ fn stage_after_answer(
     hand: &mut Hand,
     count: usize,
     txn: Txn,
-    told: QAnswer,
+    answer: QAnswer,
 ) -> WriteStage
     requires room { HasRoom next keys.now hand.old (WriteStage.Quarantining count txn) }
     requires as_long { hand.old.room ≡ length keys.now }
     requires quarantine { (who : Sid) × (mode : Mode) × (key : QKey) × Suits next mode
-        × IsQuarantineOf who key (mode_on mode key) told }
+        × IsQuarantineOf who key (mode_on mode key) answer }
     ensures ready { WriteIsReady result }
     ensures room { HasRoom next keys.now hand.new result }
     ensures as_long { hand.new.room ≡ hand.old.room }
     ensures given { (heard : List Reply) → hand.old.given ≡ granted heard →
-        hand.new.given ≡ granted (Reply.Quar told ∷ heard) }
+        hand.new.given ≡ granted (Reply.Quar answer ∷ heard) }
     ensures follows { (writing : Writing) (short : Bool) (heard : List Reply) →
         writing.keys ≡ keys.now → writing.next ≡ then_as next →
         PartsFollow writing hand.old (WriteStage.Quarantining count txn) short heard →
-        PartsFollow writing hand.new result short (Reply.Quar told ∷ heard) }
+        PartsFollow writing hand.new result short (Reply.Quar answer ∷ heard) }
 {
-    match told {
+    match answer {
         QAnswer::Granted { grant, old } => {
             hand.add(grant, old);
             stage_with(keys, next, count + 1, txn)
@@ -152,7 +152,7 @@ pub fn stage_after_quarantine(
         PartsFollow writing hand.new result short (reply ∷ heard) }
 {
     match reply {
-        Reply::Quar { told } => stage_after_answer(keys, next, hand, count, txn, told),
+        Reply::Quar { answer } => stage_after_answer(keys, next, hand, count, txn, answer),
         Reply::Fault { fault } => WriteStage::Ending {
             outcome: Outcome::Failed { fault },
         },

@@ -18,10 +18,10 @@ use key_shard::Raising;
 use rows_model::Txn;
 
 /// Whether this is an answer to a raise of the grant of which there is a note.
-fn is_raise_of(note: &Note, told: &Raising) -> bool
-    ensures { IsTrue result ↔ IsRaiseOf note.now told.now }
+fn is_raise_of(note: &Note, answer: &Raising) -> bool
+    ensures { IsTrue result ↔ IsRaiseOf note.now answer.now }
 {
-    match told {
+    match answer {
         Raising::Raised { grant, old: _ } => note.is_raised_to(grant),
         Raising::Shared { grant, holder: _ } => note.is_of(grant),
         Raising::Gone => true,
@@ -33,7 +33,7 @@ pub fn answers_raise(note: &Note, reply: &Reply) -> bool
     ensures { IsTrue result ↔ RaiseAwaits (Some note.now) reply.now }
 {
     match reply {
-        Reply::Raise { told } => is_raise_of(note, told),
+        Reply::Raise { answer } => is_raise_of(note, answer),
         Reply::RaiseBack { grant } => note.is_of(grant),
         _ => false,
     }
@@ -44,31 +44,31 @@ pub fn answers_renewal(note: &Note, reply: &Reply) -> bool
     ensures { IsTrue result ↔ RenewAwaits (Some note.now) reply.now }
 {
     match reply {
-        Reply::Renew { grant, told: _ } => note.is_of(grant),
+        Reply::Renew { grant, answer: _ } => note.is_of(grant),
         _ => false,
     }
 }
 
 /// Where a writer stands after the answer to the raise of the grant at this place. A grant that is spent
 /// leaves its hands.
-fn stage_after_raising(hand: &mut Hand, place: usize, txn: Txn, told: Raising) -> WriteStage
+fn stage_after_raising(hand: &mut Hand, place: usize, txn: Txn, answer: Raising) -> WriteStage
     requires room { LacksOne hand.old place }
     requires rest { AreToInvalidate (drop place hand.old.grants.items) }
     requires awaits { (lent : Permit) × (slice_get hand.old.given place ≡ Some lent)
-        × IsRaiseOf lent told }
+        × IsRaiseOf lent answer }
     ensures ready { WriteIsReady result }
     ensures room { (next : Next) (keys : List QKey) → HasRoom next keys hand.new result }
     ensures as_long { hand.new.room ≡ hand.old.room }
     ensures given { (writing : Writing) (short : Bool) (heard : List Reply) →
         hand.old.given ≡ granted heard →
         PartsFollow writing hand.old (WriteStage.Raised place txn) short heard →
-        hand.new.given ≡ granted (Reply.Raise told ∷ heard) }
+        hand.new.given ≡ granted (Reply.Raise answer ∷ heard) }
     ensures follows { (writing : Writing) (short : Bool) (heard : List Reply) →
         hand.old.given ≡ granted heard →
         PartsFollow writing hand.old (WriteStage.Raised place txn) short heard →
-        PartsFollow writing hand.new result short (Reply.Raise told ∷ heard) }
+        PartsFollow writing hand.new result short (Reply.Raise answer ∷ heard) }
 {
-    match told {
+    match answer {
         Raising::Raised { grant, old } => {
             let behind = hand.behind(place);
             hand.put_raised(place, grant, old);
@@ -105,7 +105,7 @@ pub fn stage_after_raise(hand: &mut Hand, place: usize, txn: Txn, reply: Reply) 
         PartsFollow writing hand.new result short (reply ∷ heard) }
 {
     match reply {
-        Reply::Raise { told } => stage_after_raising(hand, place, txn, told),
+        Reply::Raise { answer } => stage_after_raising(hand, place, txn, answer),
         Reply::RaiseBack { grant } => {
             let behind = hand.behind(place);
             hand.put_at(place, grant);
@@ -134,7 +134,7 @@ pub fn stage_after_renewal(hand: &mut Hand, place: usize, txn: Txn, reply: Reply
         PartsFollow writing hand.new result short (reply ∷ heard) }
 {
     match reply {
-        Reply::Renew { grant, told: _ } => {
+        Reply::Renew { grant, answer: _ } => {
             let behind = hand.behind(place);
             hand.put_at(place, grant);
             WriteStage::Renewing { place: behind, txn }

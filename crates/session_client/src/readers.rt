@@ -64,8 +64,8 @@ impl Reader {
             result ≡ read_wants self.old.key self.old.floor heard }
         ensures follows { (heard : List Reply) → ReadFollows self.old heard →
             ReadFollows self.new heard }
-        ensures awaits { (who : Sid) (told : Reply) →
-            ReadAwaits self.new.key self.new.floor self.new.stage told ↔ Belongs who result told }
+        ensures awaits { (who : Sid) (reply : Reply) →
+            ReadAwaits self.new.key self.new.floor self.new.stage reply ↔ Belongs who result reply }
     {
         let key = self.key;
         match mem::replace(&mut self.stage, ReadStage::Storing) {
@@ -109,7 +109,7 @@ impl Reader {
     }
 
     /// Takes in the reply to the request that is out.
-    pub fn told(&mut self, reply: Reply)
+    pub fn hear(&mut self, reply: Reply)
         requires { ReadAwaits self.old.key self.old.floor self.old.stage reply }
         ensures key { self.new.key ≡ self.old.key }
         ensures floor { self.new.floor ≡ self.old.floor }
@@ -189,8 +189,8 @@ fn next_stage(key: QKey, stage: ReadStage, reply: Reply) -> ReadStage
             ReadStage::Asking { lease } => stage_after_ask(lease, answer),
             other => other,
         },
-        Reply::Set { told } => ReadStage::Done {
-            outcome: match told {
+        Reply::Set { answer } => ReadStage::Done {
+            outcome: match answer {
                 SetAnswer::Stored { .. } => Outcome::Stored,
                 SetAnswer::Void => Outcome::Void,
             },

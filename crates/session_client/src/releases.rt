@@ -64,8 +64,8 @@ fn finish(number: u64, grant: Grant, value: Option<Value>) -> (Wanted, Option<No
     ensures wanted { (one : Given) (txn : List Change) → one.permit ≡ grant →
         IsNewBeside (Release.Finish number) txn one value →
         result.0 ≡ finish grant.mode txn number one }
-    ensures awaits { (who : Sid) (told : Reply) →
-        ReleaseAwaits result.1 told ↔ Belongs who result.0 told }
+    ensures awaits { (who : Sid) (reply : Reply) →
+        ReleaseAwaits result.1 reply ↔ Belongs who result.0 reply }
     ensures back { IfSome result.1 (λ note. note ≡ grant) }
     ensures proper { IsProper result.0 }
 {
@@ -95,8 +95,8 @@ fn finish(number: u64, grant: Grant, value: Option<Value>) -> (Wanted, Option<No
 pub fn release(how: Release, grant: Grant, value: Option<Value>) -> (Wanted, Option<Note>)
     ensures wanted { (one : Given) (txn : List Change) → one.permit ≡ grant →
         IsNewBeside how txn one value → result.0 ≡ release_of txn (release_as how) (Some one) }
-    ensures awaits { (who : Sid) (told : Reply) →
-        ReleaseAwaits result.1 told ↔ Belongs who result.0 told }
+    ensures awaits { (who : Sid) (reply : Reply) →
+        ReleaseAwaits result.1 reply ↔ Belongs who result.0 reply }
     ensures back { IfSome result.1 (λ note. note ≡ grant) }
     ensures proper { IsProper result.0 }
 {
@@ -232,7 +232,7 @@ pub fn stage_after_release(
         PartsFollow writing hand.new result short (reply ∷ heard) }
 {
     match reply {
-        Reply::Rel { told: _ } => releasing(hand, outcome, how),
+        Reply::Rel { answer: _ } => releasing(hand, outcome, how),
         Reply::SarBack { grant } => {
             hand.put_back(grant);
             WriteStage::Dropping { outcome, how }

@@ -162,16 +162,16 @@ pub enum Reply {
     },
     /// The answer to a set.
     Set {
-        told: SetAnswer,
+        answer: SetAnswer,
     },
     /// The answer to a quarantine.
     Quar {
-        told: QAnswer,
+        answer: QAnswer,
     },
     /// The answer to a raise. The grant comes back in its new mode with the key's entry, or as it was, or
     /// it is spent.
     Raise {
-        told: Raising,
+        answer: Raising,
     },
     /// There was no memory to raise the quarantine: it stands as it did, and the grant comes back.
     RaiseBack {
@@ -180,7 +180,7 @@ pub enum Reply {
     /// The answer to a renewal, or `None` where there was no memory for it. The grant comes back.
     Renew {
         grant: Grant,
-        told: Option<Renewal>,
+        answer: Option<Renewal>,
     },
     /// What the store would answer after the transaction, which comes back.
     Staged {
@@ -210,7 +210,7 @@ pub enum Reply {
     },
     /// The answer to a release.
     Rel {
-        told: Rel,
+        answer: Rel,
     },
     /// There was no memory to put the new value: the quarantine stands, and the grant comes back.
     SarBack {
@@ -229,18 +229,18 @@ impl Reply {
     /// and stand until others end them. It takes no memory.
     pub fn let_go(self) {
         match self {
-            Reply::Quar { told } => match told {
+            Reply::Quar { answer } => match answer {
                 QAnswer::Granted { grant, old: _ } => grant.let_go(),
                 QAnswer::Held => {}
                 QAnswer::Refused { holder: _, mode: _ } => {}
             },
-            Reply::Raise { told } => match told {
+            Reply::Raise { answer } => match answer {
                 Raising::Raised { grant, old: _ } => grant.let_go(),
                 Raising::Shared { grant, holder: _ } => grant.let_go(),
                 Raising::Gone => {}
             },
             Reply::RaiseBack { grant } => grant.let_go(),
-            Reply::Renew { grant, told: _ } => grant.let_go(),
+            Reply::Renew { grant, answer: _ } => grant.let_go(),
             Reply::Committed {
                 number: _,
                 txn: _,
@@ -254,11 +254,11 @@ impl Reply {
             Reply::SarBack { grant } => grant.let_go(),
             Reply::Got { got: _ } => {}
             Reply::Answer { answer: _ } => {}
-            Reply::Set { told: _ } => {}
+            Reply::Set { answer: _ } => {}
             Reply::Staged { value: _, txn: _ } => {}
             Reply::NotStaged { fault: _, txn: _ } => {}
             Reply::End { was: _ } => {}
-            Reply::Rel { told: _ } => {}
+            Reply::Rel { answer: _ } => {}
             Reply::Fault { fault: _ } => {}
             Reply::Nothing => {}
         }

@@ -115,7 +115,7 @@ impl Session {
     /// commit and brings a grant to refresh, since the new values are made then. Where there is none the
     /// reply is taken all the same: the session drops the value of each grant, in order, and has failed
     /// with want of memory.
-    pub fn told(&mut self, reply: Reply) -> Result<(), Memory>
+    pub fn hear(&mut self, reply: Reply) -> Result<(), Memory>
         requires { IsAwaited self.old reply }
         ensures plan { plan_of self.new ≡ plan_of self.old }
         ensures sid { sid_of self.new ≡ sid_of self.old }
@@ -128,10 +128,10 @@ impl Session {
         self.out = false;
         match &mut self.course {
             Course::Read(reader) => {
-                reader.told(reply);
+                reader.hear(reply);
                 Ok(())
             }
-            Course::Write(writer) => writer.told(reply),
+            Course::Write(writer) => writer.hear(reply),
         }
     }
 

@@ -89,8 +89,8 @@ impl Writer {
         ensures follows { (changes : List Change) (short : Bool) (heard : List Reply) →
             WriteFollows changes self.old short heard → WriteFollows changes self.new short heard }
         ensures awaits { (who : Sid) (changes : List Change) (short : Bool) (heard : List Reply)
-            (told : Reply) → WriteFollows changes self.old short heard →
-            WriteAwaits who changes self.new told ↔ Belongs who result told }
+            (reply : Reply) → WriteFollows changes self.old short heard →
+            WriteAwaits who changes self.new reply ↔ Belongs who result reply }
         ensures proper { IsProper result }
     {
         match mem::replace(&mut self.stage, WriteStage::Committing) {
@@ -186,7 +186,7 @@ impl Writer {
 
     /// Takes in the reply to the request that is out. For want of memory for the new values, which a
     /// commit alone brings about, the reply is taken all the same.
-    pub fn told(&mut self, reply: Reply) -> Result<(), Memory>
+    pub fn hear(&mut self, reply: Reply) -> Result<(), Memory>
         requires { (who : Sid) × (changes : List Change) × WriteAwaits who changes self.old reply }
         ensures mode { self.new.mode ≡ self.old.mode }
         ensures keys { self.new.keys ≡ self.old.keys }

@@ -407,9 +407,9 @@ found_right opening key (row ∷ rows) h =
         )
     by false other rest value stamp found = rest value stamp found
 
-pub rows_right : (told now : Option Tables) (before opening : Tables) (past : List Step) (rows : List DumpRow) → AreAnswers told before rows → now ≡ told
+pub rows_right : (known_rows now : Option Tables) (before opening : Tables) (past : List Step) (rows : List DumpRow) → AreAnswers known_rows before rows → now ≡ known_rows
     → opening ≡ before → HasRows past rows → IsSome now → AreRight opening past
-rows_right told now before opening past rows h same one has some =
+rows_right known_rows now before opening past rows h same one has some =
     let all : All (λ row. row.value ≡ answer row.key before) rows = h (subst IsSome same some) in λ key value stamp found.
     found_right opening key rows (subst (λ (t : Tables). All (λ (r : DumpRow). r.value ≡ answer r.key t) rows) (sym one) all) value stamp
     (sym (has.entries key) ∙ found)
@@ -417,12 +417,12 @@ rows_right told now before opening past rows h same one has some =
 -- ---- rows that the store was asked for
 
 pub asked_more : (key : QKey) (value given : List ℕ) (old mid new : StoreView) (rows : List DumpRow) (i : ℕ) (d : DumpRow) → old.ledger.log ≡ [] → HasAsked old mid
-    → AreAnswers mid.told old.ledger.opening (take i rows) → i < length rows → get_or rows i d ≡ record { key = key; value = value } → value ≡ given
-    → (IsSome new.told → IsSome mid.told × (given ≡ answer key (rows_of mid.ledger)))
-    → AreAnswers new.told old.ledger.opening (take (i + 1) rows)
+    → AreAnswers mid.known_rows old.ledger.opening (take i rows) → i < length rows → get_or rows i d ≡ record { key = key; value = value } → value ≡ given
+    → (IsSome new.known_rows → IsSome mid.known_rows × (given ≡ answer key (rows_of mid.ledger)))
+    → AreAnswers new.known_rows old.ledger.opening (take (i + 1) rows)
 asked_more key value given old mid new rows i d none asked before inside row same tells = λ some.
-    let told = tells some in
+    let known = tells some in
     let opening : rows_of mid.ledger ≡ old.ledger.opening = ap (rows_after mid.ledger.opening) (asked.log ∙ none) ∙ asked.opening in
-    let right : value ≡ answer key old.ledger.opening = same ∙ told.1 ∙ ap (answer key) opening in
-    All-more (λ (r : DumpRow). r.value ≡ answer r.key old.ledger.opening) rows i d inside (before told.0)
+    let right : value ≡ answer key old.ledger.opening = same ∙ known.1 ∙ ap (answer key) opening in
+    All-more (λ (r : DumpRow). r.value ≡ answer r.key old.ledger.opening) rows i d inside (before known.0)
     (subst (λ (r : DumpRow). r.value ≡ answer r.key old.ledger.opening) (sym row) right)

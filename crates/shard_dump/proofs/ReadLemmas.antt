@@ -16,7 +16,7 @@ use Rattle.shard_dump.specs.Faults.{BeginsWith, IsNext}
 use Rattle.std.specs.BTreeSet.{BTreeSet, contains}
 use Rattle.std.specs.BTreeMap.{is_at}
 use Rattle.std.proofs.lemmas.List.Folds.{list_any-append}
-use Rattle.lease_table.specs.Stands.{key_cmp}
+use Rattle.lease_table.specs.Standing.{key_cmp}
 use Rattle.lease_table.proofs.KeyLemmas.{is_at-key}
 use Rattle.shard_dump.specs.Listed.{has_row, AreKeysOf}
 use Rattle.rows_model.specs.declared.keys.QKey.{QKey}

@@ -4,7 +4,7 @@ use Rattle.std.specs.List.{list_any}
 use Rattle.std.specs.BTreeSet.{BTreeSet, contains}
 use Rattle.rows_model.specs.declared.keys.QKey.{QKey}
 use Rattle.rows_model.specs.Key.{same_key}
-use Rattle.lease_table.specs.Stands.{key_cmp}
+use Rattle.lease_table.specs.Standing.{key_cmp}
 use Rattle.shard_dump.specs.declared.rows.DumpRow.{DumpRow}
 
 -- whether one of the rows has this key

@@ -27,7 +27,7 @@ IsEmpty shard = (key : QKey) → IsBlank (past_of shard) key
 
 -- where the keeper tells its rows, each value is its key's answer on these
 abbrev pub AreAnswers : Option Tables → Tables → List DumpRow → Type 0
-AreAnswers told opening rows = IsSome told → All (λ row. row.value ≡ answer row.key opening) rows
+AreAnswers known_rows opening rows = IsSome known_rows → All (λ row. row.value ≡ answer row.key opening) rows
 
 -- the lease that a row's key is given
 abbrev pub lease_of : Terms → Sid → ℕ → ℕ → QKey → Step
@@ -154,4 +154,4 @@ pub record HasAsked (old new : StoreView) : Type 0 where
   pub sessions : new.ledger.sessions ≡ old.ledger.sessions
   pub cap : new.ledger.cap ≡ old.ledger.cap
   pub never_falls : old.faults ≤ new.faults
-  pub tells : IsSome new.told → IsSome old.told
+  pub tells : IsSome new.known_rows → IsSome old.known_rows

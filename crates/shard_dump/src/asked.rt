@@ -14,7 +14,7 @@ pub fn are_answers<K: Keeper, N: Start>(
 ) -> Result<bool, KeepFault>
     requires log { store.old.ledger.log ≡ [] }
     ensures answers { result ≡ Ok true →
-        AreAnswers store.new.told store.new.ledger.opening rows.now }
+        AreAnswers store.new.known_rows store.new.ledger.opening rows.now }
     ensures asked { HasAsked store.old store.new }
 {
     for row in rows {

@@ -30,16 +30,16 @@ pub fn load<K: Keeper, N: Start>(
     requires empty { IsEmpty shard.old }
     requires differ { AllPairs (λ row later. row.key ≢ later.key) rows.items }
     requires few { length rows.items ≤ shard.old.terms.room }
-    requires answers { AreAnswers store.old.told store.old.ledger.opening rows.items }
+    requires answers { AreAnswers store.old.known_rows store.old.ledger.opening rows.items }
     ensures count { IfOk result (λ count. count ≡ length rows.items) }
     ensures loaded { OnOk result
         (HasLoaded (last_session store.new) now rows.items shard.old shard.new) }
     ensures home { OnOk result (AreAtHome shard.old rows.items) }
     ensures tokens { OnOk result (HasTokens shard.old rows.items) }
     ensures reader { OnOk result (store.new.ledger ≡ with_session false store.old.ledger) }
-    ensures right { IsSome store.new.told → OnOk result
+    ensures right { IsSome store.new.known_rows → OnOk result
         (AreRight store.new.ledger.opening (past_of shard.new)) }
-    ensures keeper { (store.new.told ≡ store.old.told) × (store.new.faults ≡ store.old.faults) }
+    ensures keeper { (store.new.known_rows ≡ store.old.known_rows) × (store.new.faults ≡ store.old.faults) }
     ensures shard { IfErr result
         (StopsShard (last_session store.new) now rows.items shard.old shard.new) }
     ensures store { IfErr result (StopsStore store.old store.new) }

@@ -35,10 +35,10 @@ AreLegal shards = All (λ shard. Legal shard.terms shard.history) shards
 
 -- A store with the opening rows and the cap that are named. Its keeper tells its rows only
 -- if it is named as having told some, and its count of faults hasn't fallen since it was named.
-pub record IsNamedStore (opening : Tables) (cap : ℕ) (told : Option Tables) (start : Option ℕ) (store : StoreView) : Type 0 where
+pub record IsNamedStore (opening : Tables) (cap : ℕ) (known_rows : Option Tables) (start : Option ℕ) (store : StoreView) : Type 0 where
   pub opening_is : store.ledger.opening ≡ opening
   pub cap_is : store.ledger.cap ≡ cap
-  pub told_before : IsSome store.told → IsSome told
+  pub known_before : IsSome store.known_rows → IsSome known_rows
   pub never_fell : ForSome start (λ first. first ≤ store.faults)
 
 -- At least one shard: each has its place for its number, their number for its count, and the terms that are named for it.

@@ -19,7 +19,7 @@ pub trait HubName: Ledger {
 
     ghost cap: { ℕ };
 
-    ghost told: { Option Tables };
+    ghost known_rows: { Option Tables };
 
     ghost start: { Option ℕ };
 }
@@ -33,7 +33,7 @@ impl HubName for Brand {
 
     ghost cap = { 0 };
 
-    ghost told = { None };
+    ghost known_rows = { None };
 
     ghost start = { None };
 }

@@ -22,9 +22,9 @@ use Rattle.sql_keeper.specs.Sessions.{phase_of, may_commit, is_open, closed, wit
 use Rattle.sql_keeper.specs.Stores.{Ledger, IsLedger, with_commit}
 
 -- rows that are told are some rows
-pub told-at : (told : Option Tables) → IsSome told → (rows : Tables) × (told ≡ Some rows)
-told-at (Some rows) h = (rows, refl)
-told-at None h = grind (arith, h)
+pub known-at : (known_rows : Option Tables) → IsSome known_rows → (rows : Tables) × (known_rows ≡ Some rows)
+known-at (Some rows) h = (rows, refl)
+known-at None h = grind (arith, h)
 
 -- a transaction that applies on the rows after the log leads to those after the longer log
 pub rows-committed : (opening : Tables) (log : List Commit) (sid : Sid) (txn : List Change) (after : Tables)

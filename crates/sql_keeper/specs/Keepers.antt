@@ -13,7 +13,7 @@ use Rattle.sql_keeper.specs.declared.faults.AfterFault.TheVariants.{Rejected, Fa
 
 -- where a keeper tells its rows after a start, and the place tells those that it holds, the opening rows are these
 abbrev pub AreHeld : Option Tables → Option Tables → Tables → Type 0
-AreHeld told held opening = IsSome told → ForSome held (λ rows. opening ≡ rows)
+AreHeld known_rows held opening = IsSome known_rows → ForSome held (λ rows. opening ≡ rows)
 
 -- a fresh place holds so many members, and no links; of a file nothing is said
 abbrev pub HoldsFresh : Place → ℕ → Option Tables → Type 0

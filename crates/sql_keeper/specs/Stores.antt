@@ -27,7 +27,7 @@ pub record Ledger : Type 0 where
 -- a store: its ledger, and of its keeper the rows, where it tells them, and the count of faults
 pub record StoreView : Type 0 where
   pub ledger : Ledger
-  pub told : Option Tables
+  pub known_rows : Option Tables
   pub faults : ℕ
 
 -- the log of a ledger: it is no longer than it may be, each of its sessions has committed, and none did so twice

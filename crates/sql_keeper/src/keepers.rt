@@ -43,7 +43,7 @@ pub trait Keeper {
         requires some { 1 ≤ members }
         requires few { members ≤ 100000 }
         ensures started { OnOk result (is_started self.new) }
-        ensures tells { IfOk result (λ opening. ForSome (rows self.new) (λ told. told ≡ opening)) }
+        ensures tells { IfOk result (λ opening. ForSome (rows self.new) (λ known. known ≡ opening)) }
         ensures held { IfOk result (AreHeld (rows self.new) (holds self.old place.now members)) }
         ensures fresh { HoldsFresh place.now members (holds self.old place.now members) }
         ensures kept { OnErr result (rows self.new ≡ rows self.old) }
@@ -55,8 +55,8 @@ pub trait Keeper {
     fn ask(&mut self, alloc: Global, key: &QKey) -> Result<Value, KeepFault>
         requires { is_started self.old }
         ensures started { is_started self.new }
-        ensures tells { (told : Tables) → rows self.new ≡ Some told
-            → (rows self.old ≡ Some told) × IfOk result (λ value. value ≡ answer key.now told) }
+        ensures tells { (known_rows : Tables) → rows self.new ≡ Some known_rows
+            → (rows self.old ≡ Some known_rows) × IfOk result (λ value. value ≡ answer key.now known_rows) }
         ensures counts { Counts (keep_failed result) (faults self.old) (faults self.new) }
         ensures never_falls { faults self.old ≤ faults self.new };
 
@@ -64,8 +64,8 @@ pub trait Keeper {
     fn ask_after(&mut self, alloc: Global, txn: &Txn, key: &QKey) -> Result<Value, AfterFault>
         requires { is_started self.old }
         ensures started { is_started self.new }
-        ensures tells { (told : Tables) → rows self.new ≡ Some told
-            → (rows self.old ≡ Some told) × AnswersAfter txn.now key.now told result }
+        ensures tells { (known_rows : Tables) → rows self.new ≡ Some known_rows
+            → (rows self.old ≡ Some known_rows) × AnswersAfter txn.now key.now known_rows result }
         ensures counts { Counts (staged_failed result) (faults self.old) (faults self.new) }
         ensures never_falls { faults self.old ≤ faults self.new };
 
@@ -73,8 +73,8 @@ pub trait Keeper {
     fn commit(&mut self, alloc: Global, txn: &Txn) -> Result<(), AfterFault>
         requires { is_started self.old }
         ensures started { is_started self.new }
-        ensures tells { (told : Tables) → rows self.new ≡ Some told
-            → (before : Tables) × (rows self.old ≡ Some before) × Commits txn.now before told result }
+        ensures tells { (known_rows : Tables) → rows self.new ≡ Some known_rows
+            → (before : Tables) × (rows self.old ≡ Some before) × Commits txn.now before known_rows result }
         ensures counts { Counts (staged_failed result) (faults self.old) (faults self.new) }
         ensures never_falls { faults self.old ≤ faults self.new };
 }

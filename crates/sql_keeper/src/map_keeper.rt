@@ -88,7 +88,7 @@ impl Keeper for MapKeeper {
         requires some { 1 ≤ members }
         requires few { members ≤ 100000 }
         ensures started { OnOk result (IsSome self.new.rows) }
-        ensures tells { IfOk result (λ opening. ForSome self.new.rows (λ told. told ≡ opening)) }
+        ensures tells { IfOk result (λ opening. ForSome self.new.rows (λ known. known ≡ opening)) }
         ensures kept { OnErr result (self.new.rows ≡ self.old.rows) }
         ensures unstarted { OnErr result (IsSome self.new.rows → IsSome self.old.rows) }
         ensures counts { Counts (keep_failed result) self.old.faults self.new.faults }
@@ -114,8 +114,8 @@ impl Keeper for MapKeeper {
     fn ask(&mut self, alloc: Global, key: &QKey) -> Result<Value, KeepFault>
         requires { IsSome self.old.rows }
         ensures started { IsSome self.new.rows }
-        ensures tells { (told : Tables) → self.new.rows ≡ Some told
-            → (self.old.rows ≡ Some told) × IfOk result (λ value. value ≡ answer key.now told) }
+        ensures tells { (known_rows : Tables) → self.new.rows ≡ Some known_rows
+            → (self.old.rows ≡ Some known_rows) × IfOk result (λ value. value ≡ answer key.now known_rows) }
         ensures counts { Counts (keep_failed result) self.old.faults self.new.faults }
         ensures never_falls { self.old.faults ≤ self.new.faults }
 
@@ -133,8 +133,8 @@ impl Keeper for MapKeeper {
     fn ask_after(&mut self, alloc: Global, txn: &Txn, key: &QKey) -> Result<Value, AfterFault>
         requires { IsSome self.old.rows }
         ensures started { IsSome self.new.rows }
-        ensures tells { (told : Tables) → self.new.rows ≡ Some told
-            → (self.old.rows ≡ Some told) × AnswersAfter txn.now key.now told result }
+        ensures tells { (known_rows : Tables) → self.new.rows ≡ Some known_rows
+            → (self.old.rows ≡ Some known_rows) × AnswersAfter txn.now key.now known_rows result }
         ensures counts { Counts (staged_failed result) self.old.faults self.new.faults }
         ensures never_falls { self.old.faults ≤ self.new.faults }
 
@@ -152,8 +152,8 @@ impl Keeper for MapKeeper {
     fn commit(&mut self, _alloc: Global, txn: &Txn) -> Result<(), AfterFault>
         requires { IsSome self.old.rows }
         ensures started { IsSome self.new.rows }
-        ensures tells { (told : Tables) → self.new.rows ≡ Some told
-            → (before : Tables) × (self.old.rows ≡ Some before) × Commits txn.now before told result }
+        ensures tells { (known_rows : Tables) → self.new.rows ≡ Some known_rows
+            → (before : Tables) × (self.old.rows ≡ Some before) × Commits txn.now before known_rows result }
         ensures counts { Counts (staged_failed result) self.old.faults self.new.faults }
         ensures never_falls { self.old.faults ≤ self.new.faults }
 

@@ -80,7 +80,7 @@ impl<K: Keeper, N: Start> Model for Store<K, N> {
         cap = s.cap;
         failed = s.failed;
       };
-      told = K.rows s.keeper;
+      known_rows = K.rows s.keeper;
       faults = K.faults s.keeper;
     } };
 
@@ -92,7 +92,7 @@ impl<K: Keeper, N: Start> Model for Store<K, N> {
           cap = s.cap;
           failed = s.failed;
         })
-        × ForSome (K.rows s.keeper) (λ told. told ≡ rows_after s.opening s.log.items)
+        × ForSome (K.rows s.keeper) (λ known. known ≡ rows_after s.opening s.log.items)
         × FailedSince N.count s.failed (K.faults s.keeper) };
 }
 
@@ -119,9 +119,9 @@ impl<K: Keeper> Store<K> {
         requires cap { cap ≤ 8000000 }
         ensures opened { IfOk result (λ store. store.ledger ≡ opened store.ledger.opening cap) }
         ensures told { IfOk result (λ store.
-            ForSome store.told (λ told. told ≡ store.ledger.opening)) }
+            ForSome store.known_rows (λ known. known ≡ store.ledger.opening)) }
         ensures held { IfOk result (λ store.
-            AreHeld store.told (K.holds keeper place.now members) store.ledger.opening) }
+            AreHeld store.known_rows (K.holds keeper place.now members) store.ledger.opening) }
         ensures fresh { HoldsFresh place.now members (K.holds keeper place.now members) }
         ensures counts { MatchResult result
             (λ store. store.faults ≡ K.faults keeper)
@@ -179,7 +179,7 @@ impl<K: Keeper, N: Start> Store<K, N> {
         ensures ledger { OnOk result (self.new.ledger ≡ with_session writes self.old.ledger) }
         ensures number { IfOk result (λ sid. sid.number ≡ length self.new.ledger.sessions) }
         ensures err { OnErr result (self.new.ledger ≡ self.old.ledger) }
-        ensures keeper { (self.new.told ≡ self.old.told) × (self.new.faults ≡ self.old.faults) }
+        ensures keeper { (self.new.known_rows ≡ self.old.known_rows) × (self.new.faults ≡ self.old.faults) }
     {
         self.sessions.begin(writes)
     }
@@ -190,8 +190,8 @@ impl<K: Keeper, N: Start> Store<K, N> {
         ensures ledger { self.new.ledger ≡ with_call (keep_failed result) self.old.ledger }
         ensures answer { IfOk result (λ given.
             (given.key ≡ key.now) × (given.stamp ≡ length self.old.ledger.log)) }
-        ensures tells { IsSome self.new.told
-            → (IsSome self.old.told)
+        ensures tells { IsSome self.new.known_rows
+            → (IsSome self.old.known_rows)
             × IfOk result (λ given. given.value ≡ answer key.now (rows_of self.old.ledger)) }
         ensures counts { Counts (keep_failed result) self.old.faults self.new.faults }
         ensures never_falls { self.old.faults ≤ self.new.faults }
@@ -215,8 +215,8 @@ impl<K: Keeper, N: Start> Store<K, N> {
     /// comes only where the keeper's count of faults rose, and is counted.
     pub fn ask_staged(&mut self, txn: &Txn, key: &QKey) -> Result<Value, AfterFault>
         ensures ledger { self.new.ledger ≡ with_call (staged_failed result) self.old.ledger }
-        ensures tells { IsSome self.new.told
-            → (IsSome self.old.told) × AnswersAfter txn.now key.now (rows_of self.old.ledger) result }
+        ensures tells { IsSome self.new.known_rows
+            → (IsSome self.old.known_rows) × AnswersAfter txn.now key.now (rows_of self.old.ledger) result }
         ensures counts { Counts (staged_failed result) self.old.faults self.new.faults }
         ensures never_falls { self.old.faults ≤ self.new.faults }
     {
@@ -250,10 +250,10 @@ impl<K: Keeper, N: Start> Store<K, N> {
         ensures err { IfErr result (λ back.
             self.new.ledger ≡ with_call (is_failure back.0) self.old.ledger) }
         ensures back { IfErr result (λ back. back.1 ≡ txn) }
-        ensures tells { IsSome self.new.told → IsSome self.old.told }
-        ensures applied { IsSome self.new.told
+        ensures tells { IsSome self.new.known_rows → IsSome self.old.known_rows }
+        ensures applied { IsSome self.new.known_rows
             → OnOk result ((after : Tables) × (apply_all txn (rows_of self.old.ledger) ≡ Ok after)) }
-        ensures rejected { IsSome self.new.told
+        ensures rejected { IsSome self.new.known_rows
             → IfErr result (λ back. IsTrueFault txn (rows_of self.old.ledger) back.0) }
         ensures counts { MatchResult result
             (λ _. self.new.faults ≡ self.old.faults)
@@ -281,7 +281,7 @@ impl<K: Keeper, N: Start> Store<K, N> {
         ensures was { result.was ≡ is_open sid self.old.ledger.sessions }
         ensures ledger { self.new.ledger ≡ with_end sid self.old.ledger }
         ensures ended { IsFalse (is_open sid self.new.ledger.sessions) }
-        ensures keeper { (self.new.told ≡ self.old.told) × (self.new.faults ≡ self.old.faults) }
+        ensures keeper { (self.new.known_rows ≡ self.old.known_rows) × (self.new.faults ≡ self.old.faults) }
     {
         Closed::new(sid, self.sessions.end(sid))
     }
@@ -317,7 +317,7 @@ impl<K: Keeper, N: Start> Store<K, N> {
         ensures once { AllPairs (λ commit later. commit.sid.number ≢ later.sid.number) result.now }
         ensures closed { All (λ commit. IsFalse (is_open commit.sid self.now.ledger.sessions))
             result.now }
-        ensures told { ForSome self.now.told (λ told. told ≡ rows_of self.now.ledger) }
+        ensures told { ForSome self.now.known_rows (λ known. known ≡ rows_of self.now.ledger) }
     {
         self.log.as_slice()
     }
@@ -337,7 +337,7 @@ impl<K: Keeper, N: Start> Store<K, N> {
     pub fn rebase(self) -> Result<(Store<K, N>, Rows, Vec<Commit>), Store<K, N>>
         ensures ledger { IfOk result (λ made. made.0.ledger ≡ rebased self.ledger) }
         ensures keeper { IfOk result (λ made.
-            (made.0.told ≡ self.told) × (made.0.faults ≡ self.faults)) }
+            (made.0.known_rows ≡ self.known_rows) × (made.0.faults ≡ self.faults)) }
         ensures opening { IfOk result (λ made. made.1 ≡ self.ledger.opening) }
         ensures log { IfOk result (λ made. made.2.items ≡ self.ledger.log) }
         ensures err { IfErr result (λ back. back ≡ self) }
@@ -369,12 +369,12 @@ impl<K: Keeper, N: Start> Store<K, N> {
 
     /// The keeper, the opening rows and the log.
     pub fn into_parts(self) -> (K, Rows, Vec<Commit>)
-        ensures rows { K.rows result.0 ≡ self.told }
+        ensures rows { K.rows result.0 ≡ self.known_rows }
         ensures faults { K.faults result.0 ≡ self.faults }
         ensures started { K.is_started result.0 }
         ensures opening { result.1 ≡ self.ledger.opening }
         ensures log { result.2.items ≡ self.ledger.log }
-        ensures told { ForSome self.told (λ told. told ≡ rows_of self.ledger) }
+        ensures told { ForSome self.known_rows (λ known. known ≡ rows_of self.ledger) }
         ensures since { FailedSince N.count self.ledger.failed self.faults }
     {
         let Store {

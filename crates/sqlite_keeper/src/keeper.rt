@@ -127,7 +127,7 @@ impl Keeper for SqliteKeeper {
         requires few { members ≤ 100000 }
         ensures started { OnOk result (IsSome self.new.base) }
         ensures tells { IfOk result (λ opening.
-            ForSome self.new.base (λ told. told ≡ opening)) }
+            ForSome self.new.base (λ known. known ≡ opening)) }
         ensures held { IfOk result (AreHeld self.new.base (held_at place.now members)) }
         ensures fresh { HoldsFresh place.now members (held_at place.now members) }
         ensures kept { OnErr result (self.new.base ≡ self.old.base) }
@@ -149,9 +149,9 @@ impl Keeper for SqliteKeeper {
     fn ask(&mut self, alloc: Global, key: &QKey) -> Result<Value, KeepFault>
         requires { IsSome self.old.base }
         ensures started { IsSome self.new.base }
-        ensures tells { (told : Tables) → self.new.base ≡ Some told
-            → (self.old.base ≡ Some told)
-            × IfOk result (λ value. value ≡ answer key.now told) }
+        ensures tells { (known_rows : Tables) → self.new.base ≡ Some known_rows
+            → (self.old.base ≡ Some known_rows)
+            × IfOk result (λ value. value ≡ answer key.now known_rows) }
         ensures counts { Counts (keep_failed result) self.old.faults self.new.faults }
         ensures never_falls { self.old.faults ≤ self.new.faults }
     {
@@ -163,8 +163,8 @@ impl Keeper for SqliteKeeper {
     fn ask_after(&mut self, alloc: Global, txn: &Txn, key: &QKey) -> Result<Value, AfterFault>
         requires { IsSome self.old.base }
         ensures started { IsSome self.new.base }
-        ensures tells { (told : Tables) → self.new.base ≡ Some told
-            → (self.old.base ≡ Some told) × AnswersAfter txn.now key.now told result }
+        ensures tells { (known_rows : Tables) → self.new.base ≡ Some known_rows
+            → (self.old.base ≡ Some known_rows) × AnswersAfter txn.now key.now known_rows result }
         ensures counts { Counts (staged_failed result) self.old.faults self.new.faults }
         ensures never_falls { self.old.faults ≤ self.new.faults }
     {
@@ -176,9 +176,9 @@ impl Keeper for SqliteKeeper {
     fn commit(&mut self, alloc: Global, txn: &Txn) -> Result<(), AfterFault>
         requires { IsSome self.old.base }
         ensures started { IsSome self.new.base }
-        ensures tells { (told : Tables) → self.new.base ≡ Some told
+        ensures tells { (known_rows : Tables) → self.new.base ≡ Some known_rows
             → (before : Tables) × (self.old.base ≡ Some before)
-            × Commits txn.now before told result }
+            × Commits txn.now before known_rows result }
         ensures counts { Counts (staged_failed result) self.old.faults self.new.faults }
         ensures never_falls { self.old.faults ≤ self.new.faults }
     {

@@ -211,8 +211,8 @@ module _ (lists : Lists) (fit : Fit (tables_of lists)) (a b : ℕ) where
       (ap (λ (u : Tables). is_linked (min a b) (max a b) u) is ∙ (λ i. list_any (λ (l : Link). joins_sorted a b l i) (without_link a b rows.links)) ∙ none_any (joins a b) _ parted)
       (ap (λ (u : Tables). has_blocked (min a b) (max a b) u) is ∙ none_any _ rows.blocks (no_block_beside rows fit (min a b) (max a b) linked))
 
-  friendship_is : (told : Link) → told ≡ record { a = min a b; b = max a b; state = link.Friend } → told ≡ friendship a b
-  friendship_is told is = elim (cases_lt a b) [
+  friendship_is : (its_link : Link) → its_link ≡ record { a = min a b; b = max a b; state = link.Friend } → its_link ≡ friendship a b
+  friendship_is its_link is = elim (cases_lt a b) [
     | inl below ↦
         let low : min a b ≡ a = omega arith in
         let high : max a b ≡ b = omega arith in
@@ -229,11 +229,11 @@ module _ (lists : Lists) (fit : Fit (tables_of lists)) (a b : ℕ) where
   pub accepted : AllPairs IsPairBefore lists.pairs → is_invited a b rows ≡ true
       → tables_of (with_pair (friends a b) (without_pair a b lists)) ≡ record { members = lists.members; links = with_link (friendship a b) (without_link a b rows.links); blocks = rows.blocks }
   accepted up invited =
-      let told : Link = record { a = min a b; b = max a b; state = link.Friend } in
+      let its_link : Link = record { a = min a b; b = max a b; state = link.Friend } in
       let left = without_pair a b lists in
-      link_put (friends a b) told left refl refl refl refl (AllPairs-filter IsPairBefore (λ p. not (is_pair a b p)) lists.pairs up)
-      ∙ ap (λ (u : Tables). record { members = lists.members; links = with_link told u.links; blocks = u.blocks }) (rejected invited)
-      ∙ ap (λ (l : Link). record { members = lists.members; links = with_link l (without_link a b rows.links); blocks = rows.blocks }) (friendship_is told refl)
+      link_put (friends a b) its_link left refl refl refl refl (AllPairs-filter IsPairBefore (λ p. not (is_pair a b p)) lists.pairs up)
+      ∙ ap (λ (u : Tables). record { members = lists.members; links = with_link its_link u.links; blocks = u.blocks }) (rejected invited)
+      ∙ ap (λ (l : Link). record { members = lists.members; links = with_link l (without_link a b rows.links); blocks = rows.blocks }) (friendship_is its_link refl)
 
 -- what applies is made
 pub changes_are_made : ChangesAreMade

@@ -51,30 +51,30 @@ module _ (id : ℕ) (rest : Row) (shown : List Term) (give : Row → Row) where
   abbrev passes : Row → Bool
   passes values = is_true (binary (Compare Eq Binary) (column values 0) (Int (pos id))) && true
 
-  abbrev told : Row → Output
-  told values = ([], give values)
+  abbrev as_output : Row → Output
+  as_output values = ([], give values)
 
-  module _ (given : (r : Row) → output q (params ∷ r ∷ []) ≡ told (shown_member r)) (members : List Member) (up : AllPairs (λ member later. member.id < later.id) members) where
+  module _ (given : (r : Row) → output q (params ∷ r ∷ []) ≡ as_output (shown_member r)) (members : List Member) (up : AllPairs (λ member later. member.id < later.id) members) where
     abbrev one : Option Member
     one = find (λ (m : Member). m.id == id) members
 
     kept_is : (rows : List Row) → map (output q) (flat_map (λ r. cond (is_true (binary (Compare Eq Binary) (column r 0) (Int (pos id))) && true) ((params ∷ r ∷ []) ∷ []) []) rows)
-        ≡ map told (filter passes (map shown_member rows))
+        ≡ map as_output (filter passes (map shown_member rows))
     kept_is rows =
         chosen (λ r. is_true (binary (Compare Eq Binary) (column r 0) (Int (pos id))) && true) (λ r. params ∷ r ∷ []) (output q) rows
         ∙ (λ i. map (λ r. given r i) (filter (λ r. passes (shown_member r)) rows))
-        ∙ sym (map-map told shown_member _)
-        ∙ ap (map told) (sym (filter-map passes shown_member rows))
+        ∙ sym (map-map as_output shown_member _)
+        ∙ ap (map as_output) (sym (filter-map passes shown_member rows))
 
-    wanted_is : map told (filter passes (map member_values members)) ≡ map (λ m. told (member_values m)) (option_to_list one)
+    wanted_is : map as_output (filter passes (map member_values members)) ≡ map (λ m. as_output (member_values m)) (option_to_list one)
     wanted_is =
-        ap (map told) (filter-map passes member_values members) ∙ map-map told member_values _
-        ∙ (λ i. map (λ (m : Member). told (member_values m)) (filter (λ (m : Member). (and_true _ ∙ same_number m.id id) i) members))
-        ∙ ap (map (λ (m : Member). told (member_values m))) (one_has id members up)
+        ap (map as_output) (filter-map passes member_values members) ∙ map-map as_output member_values _
+        ∙ (λ i. map (λ (m : Member). as_output (member_values m)) (filter (λ (m : Member). (and_true _ ∙ same_number m.id id) i) members))
+        ∙ ap (map (λ (m : Member). as_output (member_values m))) (one_has id members up)
 
-    ordered_is : (found : Option Member) (ordered : List Output) → IsPermutation (map (λ m. told (member_values m)) (option_to_list found)) ordered → ordered
-        ≡ map (λ m. told (member_values m)) (option_to_list found)
-    ordered_is (Some m) ordered same = one_permutation (told (member_values m)) ordered same
+    ordered_is : (found : Option Member) (ordered : List Output) → IsPermutation (map (λ m. as_output (member_values m)) (option_to_list found)) ordered → ordered
+        ≡ map (λ m. as_output (member_values m)) (option_to_list found)
+    ordered_is (Some m) ordered same = one_permutation (as_output (member_values m)) ordered same
     ordered_is None ordered same = none ordered (length_permutation [] ordered same)
       where
         none : (os : List Output) → length os ≡ 0 → os ≡ []
@@ -84,8 +84,8 @@ module _ (id : ℕ) (rest : Row) (shown : List Term) (give : Row → Row) where
     pub answered : (lost : Value) (db : Trees) (rows : List Row) → IsPermutation (map member_values members) (map shown_member (db 0)) → IsAnswerAs lost q db params rows
         → rows ≡ map (λ m. give (member_values m)) (option_to_list one)
     answered lost db rows same a =
-        let kept : a.kept ≡ map told (filter passes (map shown_member (db 0))) = a.distinct ∙ ap (map (output q)) a.grouped ∙ kept_is (db 0) in
-        let mixed : IsPermutation (map (λ m. told (member_values m)) (option_to_list one)) a.kept =
-        subst (λ l. IsPermutation l a.kept) wanted_is (subst (IsPermutation _) (sym kept) (IsPermutation-map told _ _ (IsPermutation-filter passes _ _ same))) in
+        let kept : a.kept ≡ map as_output (filter passes (map shown_member (db 0))) = a.distinct ∙ ap (map (output q)) a.grouped ∙ kept_is (db 0) in
+        let mixed : IsPermutation (map (λ m. as_output (member_values m)) (option_to_list one)) a.kept =
+        subst (λ l. IsPermutation l a.kept) wanted_is (subst (IsPermutation _) (sym kept) (IsPermutation-map as_output _ _ (IsPermutation-filter passes _ _ same))) in
         let ordered = ordered_is one a.ordered (IsPermutation-trans _ _ _ mixed a.same) in
-        a.shown ∙ ap (λ os. page q params (map (λ (o : Output). o.1) os)) ordered ∙ map-map (λ (o : Output). o.1) (λ (m : Member). told (member_values m)) _
+        a.shown ∙ ap (λ os. page q params (map (λ (o : Output). o.1) os)) ordered ∙ map-map (λ (o : Output). o.1) (λ (m : Member). as_output (member_values m)) _

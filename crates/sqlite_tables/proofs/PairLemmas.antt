@@ -57,8 +57,8 @@ less_is m n h = value_cmp-Int (pos m) (pos n) ∙ int_less m n h
     int_less m n h = grind (arith, ints, nat_tests)
 
 -- a pair as it is sorted and shown
-abbrev pub told : Row → Output
-told values = (column values 0 ∷ column values 1 ∷ [], column values 0 ∷ column values 1 ∷ column values 2 ∷ [])
+abbrev pub as_output : Row → Output
+as_output values = (column values 0 ∷ column values 1 ∷ [], column values 0 ∷ column values 1 ∷ column values 2 ∷ [])
 
 module _ (at : ℕ) (id : ℕ) where
   abbrev q : Query
@@ -73,7 +73,7 @@ module _ (at : ℕ) (id : ℕ) where
   abbrev below : Output → Output → Bool
   below x y = is_lt (output_cmp q x y)
 
-  pair_rises : (pair later : Pair) → IsPairBefore pair later → below (told (pair_values pair)) (told (pair_values later)) ≡ true
+  pair_rises : (pair later : Pair) → IsPairBefore pair later → below (as_output (pair_values pair)) (as_output (pair_values later)) ≡ true
   pair_rises pair later h = elim (cases_lt pair.a later.a) [
     | inl lower ↦ rw (less_is pair.a later.a lower) refl
     | inr tied ↦
@@ -83,12 +83,12 @@ module _ (at : ℕ) (id : ℕ) where
 
   module _ (column_is : (r : Row) → column r (suc at) ≡ column (shown_pair r) at) where
     kept_is : (rows : List Row) → map (output q) (flat_map (λ r. cond (is_true (binary (Compare Eq Binary) (column r (suc at)) (Int (pos id))) && true) ((params ∷ r ∷ []) ∷ []) []) rows)
-        ≡ map told (filter passes (map shown_pair rows))
+        ≡ map as_output (filter passes (map shown_pair rows))
     kept_is rows =
         chosen (λ r. is_true (binary (Compare Eq Binary) (column r (suc at)) (Int (pos id))) && true) (λ r. params ∷ r ∷ []) (output q) rows
-        ∙ (λ i. map (λ r. told (shown_pair r)) (filter (λ r. is_true (binary (Compare Eq Binary) (column_is r i) (Int (pos id))) && true) rows))
-        ∙ sym (map-map told shown_pair _)
-        ∙ ap (map told) (sym (filter-map passes shown_pair rows))
+        ∙ (λ i. map (λ r. as_output (shown_pair r)) (filter (λ r. is_true (binary (Compare Eq Binary) (column_is r i) (Int (pos id))) && true) rows))
+        ∙ sym (map-map as_output shown_pair _)
+        ∙ ap (map as_output) (sym (filter-map passes shown_pair rows))
 
     module _ (side : Pair → ℕ) (side_is : (pair : Pair) → column (pair_values pair) at ≡ Int (pos (side pair))) (pairs : List Pair) (rise : AllPairs IsPairBefore pairs) where
       abbrev wanted : List Pair
@@ -97,21 +97,21 @@ module _ (at : ℕ) (id : ℕ) where
       passes_is : (pair : Pair) → passes (pair_values pair) ≡ (side pair == id)
       passes_is pair = and_true _ ∙ ap (λ v. is_true (binary (Compare Eq Binary) v (Int (pos id)))) (side_is pair) ∙ same_number (side pair) id
 
-      all_are : map told (filter passes (map pair_values pairs)) ≡ map (λ pair. told (pair_values pair)) wanted
+      all_are : map as_output (filter passes (map pair_values pairs)) ≡ map (λ pair. as_output (pair_values pair)) wanted
       all_are =
-          ap (map told) (filter-map passes pair_values pairs) ∙ map-map told pair_values _
-          ∙ (λ i. map (λ (pair : Pair). told (pair_values pair)) (filter (λ pair. passes_is pair i) pairs))
+          ap (map as_output) (filter-map passes pair_values pairs) ∙ map-map as_output pair_values _
+          ∙ (λ i. map (λ (pair : Pair). as_output (pair_values pair)) (filter (λ pair. passes_is pair i) pairs))
 
       pub answered : (lost : Value) (db : Trees) (rows : List Row) → IsPermutation (map pair_values pairs) (map shown_pair (db 1))
           → IsAnswerAs lost q db params rows → rows ≡ map pair_values wanted
       answered lost db rows same a =
-          let kept : a.kept ≡ map told (filter passes (map shown_pair (db 1))) = a.distinct ∙ ap (map (output q)) a.grouped ∙ kept_is (db 1) in
-          let mixed : IsPermutation (map (λ pair. told (pair_values pair)) wanted) a.kept =
-          subst (λ l. IsPermutation l a.kept) all_are (subst (IsPermutation _) (sym kept) (IsPermutation-map told _ _ (IsPermutation-filter passes _ _ same))) in
-          let up = ascending_from (λ (x z : Pair). below (told (pair_values x)) (told (pair_values z)) ≡ true) wanted
+          let kept : a.kept ≡ map as_output (filter passes (map shown_pair (db 1))) = a.distinct ∙ ap (map (output q)) a.grouped ∙ kept_is (db 1) in
+          let mixed : IsPermutation (map (λ pair. as_output (pair_values pair)) wanted) a.kept =
+          subst (λ l. IsPermutation l a.kept) all_are (subst (IsPermutation _) (sym kept) (IsPermutation-map as_output _ _ (IsPermutation-filter passes _ _ same))) in
+          let up = ascending_from (λ (x z : Pair). below (as_output (pair_values x)) (as_output (pair_values z)) ≡ true) wanted
           (λ i j d low high. pair_rises (get_or wanted i d) (get_or wanted j d) (AllPairs-filter IsPairBefore (λ (pair : Pair). side pair == id) pairs rise i j d low high)) in
           let level = ascending_from (λ (y w : Output). below w y ≡ false) a.ordered
           (λ i j d low high. sorted_far below (ranks_by (output_cmp_total q) (λ (o : Output). o)) a.ordered a.sorted i j d (omega (arith, low)) high) in
-          let ordered = same_order below (λ x. ap is_lt (tied_itself (output_cmp_total q) x)) (map (λ pair. told (pair_values pair)) wanted) a.ordered
-          (ascending_map (λ x z. below x z ≡ true) (λ (pair : Pair). told (pair_values pair)) wanted up) level (IsPermutation-trans _ _ _ mixed a.same) in
-          a.shown ∙ ap (λ os. page q params (map (λ (o : Output). o.1) os)) ordered ∙ map-map (λ (o : Output). o.1) (λ (pair : Pair). told (pair_values pair)) wanted
+          let ordered = same_order below (λ x. ap is_lt (tied_itself (output_cmp_total q) x)) (map (λ pair. as_output (pair_values pair)) wanted) a.ordered
+          (ascending_map (λ x z. below x z ≡ true) (λ (pair : Pair). as_output (pair_values pair)) wanted up) level (IsPermutation-trans _ _ _ mixed a.same) in
+          a.shown ∙ ap (λ os. page q params (map (λ (o : Output). o.1) os)) ordered ∙ map-map (λ (o : Output). o.1) (λ (pair : Pair). as_output (pair_values pair)) wanted

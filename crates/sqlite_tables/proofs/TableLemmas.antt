@@ -43,20 +43,20 @@ module _ {X Y : Type 0} (p : X → Bool) (q : Y → Bool) (f : X → List Y) (al
   ]
 
   -- one that is told stands in its place among those that are told
-  pub insert_told : (new : X) (told : Y) → f new ≡ told ∷ [] → (xs : List X) → Stops p xs
-      → flat_map f (insert xs (count_by p xs) new) ≡ insert (flat_map f xs) (count_by q (flat_map f xs)) told
-  insert_told new told is [] stops = rw is refl
-  insert_told new told is (x ∷ xs) stops = elim (cases_Bool (p x)) [
+  pub insert_told : (new : X) (image : Y) → f new ≡ image ∷ [] → (xs : List X) → Stops p xs
+      → flat_map f (insert xs (count_by p xs) new) ≡ insert (flat_map f xs) (count_by q (flat_map f xs)) image
+  insert_told new image is [] stops = rw is refl
+  insert_told new image is (x ∷ xs) stops = elim (cases_Bool (p x)) [
     | inl counted ↦
-        let later = insert_told new told is xs (pairs_tail (λ x y. p x ≡ false → p y ≡ false) x xs stops) in
+        let later = insert_told new image is xs (pairs_tail (λ x y. p x ≡ false → p y ≡ false) x xs stops) in
         ap (flat_map f) (insert_past p new x xs counted) ∙ ap (λ l. f x ++ l) later
         ∙ elim (alike x) [
           | inl nothing ↦ rw nothing refl
-          | inr one ↦ rw one.1 (sym (insert_past q told one.0 (flat_map f xs) (one.2 ∙ counted)))
+          | inr one ↦ rw one.1 (sym (insert_past q image one.0 (flat_map f xs) (one.2 ∙ counted)))
         ]
     | inr not_counted ↦
         let none : All (λ z. p z ≡ false) (x ∷ xs) = All-cons (λ z. p z ≡ false) x xs not_counted (λ k d low. pairs_head (λ x y. p x ≡ false → p y ≡ false) x xs stops k d low not_counted) in
-        ap (flat_map f) (insert_first p new (x ∷ xs) none) ∙ ap (λ l. l ++ flat_map f (x ∷ xs)) is ∙ sym (insert_first q told (flat_map f (x ∷ xs)) (none_told (x ∷ xs) none))
+        ap (flat_map f) (insert_first p new (x ∷ xs) none) ∙ ap (λ l. l ++ flat_map f (x ∷ xs)) is ∙ sym (insert_first q image (flat_map f (x ∷ xs)) (none_told (x ∷ xs) none))
   ]
 
 flat_append : {X Y : Type 0} (f : X → List Y) (xs ys : List X) → flat_map f (xs ++ ys) ≡ flat_map f xs ++ flat_map f ys
@@ -89,16 +89,16 @@ as_link pair = link_in pair.a pair.b pair.state
 as_block : Pair → List BlockRow
 as_block pair = block_in pair.a pair.b pair.state
 
-links_alike : (new : Pair) (told : Link) → told.a ≡ new.a → told.b ≡ new.b → TellsAlike (is_pair_before new) (is_before told) (λ pair. link_in pair.a pair.b pair.state)
-links_alike new told a b pair = elim pair.state as (λ s. (link_in pair.a pair.b s ≡ []) ⊎ ((y : Link) × (link_in pair.a pair.b s ≡ y ∷ []) × (is_before told y ≡ is_pair_before new pair))) [
+links_alike : (new : Pair) (link : Link) → link.a ≡ new.a → link.b ≡ new.b → TellsAlike (is_pair_before new) (is_before link) (λ pair. link_in pair.a pair.b pair.state)
+links_alike new its_link a b pair = elim pair.state as (λ s. (link_in pair.a pair.b s ≡ []) ⊎ ((y : Link) × (link_in pair.a pair.b s ≡ y ∷ []) × (is_before its_link y ≡ is_pair_before new pair))) [
   | Pending ↦ inr (record { a = pair.a; b = pair.b; state = link.Pending }, refl, rw (a, b) refl)
   | Friend ↦ inr (record { a = pair.a; b = pair.b; state = link.Friend }, refl, rw (a, b) refl)
   | Block ↦ inl refl
 ]
 
-blocks_alike : (new : Pair) (told : BlockRow) → told.blocker ≡ new.a → told.blocked ≡ new.b → TellsAlike (is_pair_before new) (is_block_before told) (λ pair. block_in pair.a pair.b pair.state)
-blocks_alike new told a b pair = elim pair.state as (λ s. (block_in pair.a pair.b s ≡ []) ⊎ ((y : BlockRow) × (block_in pair.a pair.b s ≡ y ∷ []) ×
-    (is_block_before told y ≡ is_pair_before new pair))) [
+blocks_alike : (new : Pair) (block : BlockRow) → block.blocker ≡ new.a → block.blocked ≡ new.b → TellsAlike (is_pair_before new) (is_block_before block) (λ pair. block_in pair.a pair.b pair.state)
+blocks_alike new block a b pair = elim pair.state as (λ s. (block_in pair.a pair.b s ≡ []) ⊎ ((y : BlockRow) × (block_in pair.a pair.b s ≡ y ∷ []) ×
+    (is_block_before block y ≡ is_pair_before new pair))) [
       | Pending ↦ inl refl
       | Friend ↦ inl refl
       | Block ↦ inr (record { blocker = pair.a; blocked = pair.b }, refl, rw (a, b) refl)
@@ -111,12 +111,12 @@ stops_of : (new : Pair) (pairs : List Pair) → AllPairs IsPairBefore pairs → 
 stops_of new pairs up = λ i j d low high. stop new (get_or pairs i d) (get_or pairs j d) (up i j d low high)
 
 -- a link that is put stands in its place among the links, and the blocks stay
-pub link_put : (new : Pair) (told : Link) (lists : Lists) → link_in new.a new.b new.state ≡ told ∷ [] → told.a ≡ new.a → told.b ≡ new.b
+pub link_put : (new : Pair) (link : Link) (lists : Lists) → link_in new.a new.b new.state ≡ link ∷ [] → link.a ≡ new.a → link.b ≡ new.b
     → block_in new.a new.b new.state ≡ [] → AllPairs IsPairBefore lists.pairs
-    → tables_of (with_pair new lists) ≡ record { members = lists.members; links = with_link told (tables_of lists).links; blocks = (tables_of lists).blocks }
-link_put new told lists is a b no_block up =
+    → tables_of (with_pair new lists) ≡ record { members = lists.members; links = with_link link (tables_of lists).links; blocks = (tables_of lists).blocks }
+link_put new link lists is a b no_block up =
     ap₂ (λ ls bs. record { members = lists.members; links = ls; blocks = bs })
-    (insert_told (is_pair_before new) (is_before told) _ (links_alike new told a b) new told is lists.pairs (stops_of new lists.pairs up))
+    (insert_told (is_pair_before new) (is_before link) _ (links_alike new link a b) new link is lists.pairs (stops_of new lists.pairs up))
     (insert_untold (λ pair. block_in pair.a pair.b pair.state) new no_block lists.pairs _)
 
 -- a block that is put stands in its place among the blocks, and the links stay
@@ -129,7 +129,7 @@ pub block_put : (a b : ℕ) (lists : Lists) → AllPairs IsPairBefore lists.pair
     }
 block_put a b lists up =
     let new : Pair = record { a = a; b = b; state = Block } in
-    let told : BlockRow = record { blocker = a; blocked = b } in
+    let block : BlockRow = record { blocker = a; blocked = b } in
     ap₂ (λ ls bs. record { members = lists.members; links = ls; blocks = bs })
     (insert_untold (λ pair. link_in pair.a pair.b pair.state) new refl lists.pairs _)
-    (insert_told (is_pair_before new) (is_block_before told) _ (blocks_alike new told refl refl) new told refl lists.pairs (stops_of new lists.pairs up))
+    (insert_told (is_pair_before new) (is_block_before block) _ (blocks_alike new block refl refl) new block refl lists.pairs (stops_of new lists.pairs up))

@@ -76,7 +76,7 @@ fn sid_of(command: &Command) -> Option<u64> {
 }
 
 /// What stands behind the key and the session of a command.
-fn rest_told(alloc: Global, command: &Command) -> Result<String, AllocError> {
+fn rest_text(alloc: Global, command: &Command) -> Result<String, AllocError> {
     match command {
         Command::Begin { role } => format!(in alloc; " {role:?}"),
         Command::IqGet { floor, .. } => format!(in alloc; " {floor}"),
@@ -104,73 +104,73 @@ fn block_of(command: &Command) -> Option<&Value> {
 }
 
 /// A command in words: its verb, its key, its numbers, and its block in brackets.
-fn command_told(alloc: Global, command: &Command) -> Result<String, Memory> {
-    let mut told = String::from_str(alloc, verb_of(command))?;
+fn command_text(alloc: Global, command: &Command) -> Result<String, Memory> {
+    let mut text = String::from_str(alloc, verb_of(command))?;
     match key_of(command) {
         Some(Some(key)) => {
-            told.push_str(" ")?;
-            told.push_str(String::from_utf8_lossy(alloc, key.text(alloc)?.bytes())?.as_str())?;
+            text.push_str(" ")?;
+            text.push_str(String::from_utf8_lossy(alloc, key.text(alloc)?.bytes())?.as_str())?;
         }
-        Some(None) => told.push_str(" none")?,
+        Some(None) => text.push_str(" none")?,
         None => {}
     }
     if let Some((flags, exptime)) = flags_of(command) {
-        told.push_str(format!(in alloc; " {flags} {exptime}")?.as_str())?;
+        text.push_str(format!(in alloc; " {flags} {exptime}")?.as_str())?;
     }
     if let Some(sid) = sid_of(command) {
-        told.push_str(format!(in alloc; " {sid}")?.as_str())?;
+        text.push_str(format!(in alloc; " {sid}")?.as_str())?;
     }
-    told.push_str(rest_told(alloc, command)?.as_str())?;
+    text.push_str(rest_text(alloc, command)?.as_str())?;
     if let Some(block) = block_of(command) {
-        told.push_str(" [")?;
-        told.push_str(String::from_utf8_lossy(alloc, block.bytes())?.as_str())?;
-        told.push_str("]")?;
+        text.push_str(" [")?;
+        text.push_str(String::from_utf8_lossy(alloc, block.bytes())?.as_str())?;
+        text.push_str("]")?;
     }
-    Ok(told)
+    Ok(text)
 }
 
 // Tells what a framer answers, each with a semicolon behind it, until it needs more bytes or tells a
 // fault that lasts, which is told once.
-fn tell_answers(alloc: Global, framer: &mut Framer, told: &mut String) -> Result<(), Memory> {
+fn tell_answers(alloc: Global, framer: &mut Framer, its_text: &mut String) -> Result<(), Memory> {
     for _ in 0..100 {
         match framer.next_command() {
-            Ok(Some(command)) => told.push_str(command_told(alloc, &command)?.as_str())?,
+            Ok(Some(command)) => its_text.push_str(command_text(alloc, &command)?.as_str())?,
             Ok(None) => return Ok(()),
             Err(FrameFault::BadLine { place }) => {
-                told.push_str(format!(in alloc; "bad line {place}")?.as_str())?;
+                its_text.push_str(format!(in alloc; "bad line {place}")?.as_str())?;
             }
             Err(fault) => {
                 let text = format!(in alloc; "{fault:?};")?;
-                if !told.as_str().ends_with(text.as_str()) {
-                    told.push_str(text.as_str())?;
+                if !its_text.as_str().ends_with(text.as_str()) {
+                    its_text.push_str(text.as_str())?;
                 }
                 return Ok(());
             }
         }
-        told.push_str(";")?;
+        its_text.push_str(";")?;
     }
     Ok(())
 }
 
 // What a framer answers to a stream that comes in pieces of so many bytes, and how many bytes are
 // left; each piece is told of before the next is fed.
-fn stream_told(alloc: Global, stream: &[u8], piece: usize) -> Result<String, Memory> {
+fn stream_text(alloc: Global, stream: &[u8], piece: usize) -> Result<String, Memory> {
     let mut framer = Framer::new(alloc);
-    let mut told = String::new(alloc);
+    let mut text = String::new(alloc);
     for part in stream.chunks(piece.max(1)) {
         framer.feed(part)?;
-        tell_answers(alloc, &mut framer, &mut told)?;
+        tell_answers(alloc, &mut framer, &mut text)?;
     }
-    told.push_str(format!(in alloc; "left {}", framer.left())?.as_str())?;
-    Ok(told)
+    text.push_str(format!(in alloc; "left {}", framer.left())?.as_str())?;
+    Ok(text)
 }
 
 /// A framer answers this to a stream in pieces of so many bytes.
 fn answers(rt: &impl Abort, alloc: Global, stream: &[u8], piece: usize, want: &str) {
-    let told = stream_told(alloc, stream, piece).expect(rt, "memory");
+    let text = stream_text(alloc, stream, piece).expect(rt, "memory");
     assert!(rt;
-        told.as_str() == want,
-        "{told} in pieces of {piece}, and not {want}"
+        text.as_str() == want,
+        "{text} in pieces of {piece}, and not {want}"
     );
 }
 

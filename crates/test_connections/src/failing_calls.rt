@@ -27,10 +27,10 @@ fn read_fails(
 {
     let mut desk = TestDesk::new(alloc, &[])?;
     let line = failing_line(alloc, TALK, (piece, 4096), &[read], &[])?;
-    let (told, end) = served(rt, alloc, line, &mut desk);
+    let (text, end) = served(rt, alloc, line, &mut desk);
     let (wanted, ended) = told_to(rt, alloc, given)?;
-    assert!(rt; told.as_str() == wanted.as_str());
-    assert!(rt; REPLIES.starts_with(told.as_str()));
+    assert!(rt; text.as_str() == wanted.as_str());
+    assert!(rt; REPLIES.starts_with(text.as_str()));
     let has_quit = ended == LineEnd::Quit;
     assert!(rt;
         end == if has_quit {
@@ -54,8 +54,8 @@ fn write_fails(
 {
     let mut desk = TestDesk::new(alloc, &[])?;
     let line = failing_line(alloc, TALK, (4096, piece), &[], &[write])?;
-    let (told, end) = served(rt, alloc, line, &mut desk);
-    assert!(rt; told.as_bytes() == taken);
+    let (text, end) = served(rt, alloc, line, &mut desk);
+    assert!(rt; text.as_bytes() == taken);
     assert!(rt; end == LineEnd::WriteFault);
     Ok(())
 }

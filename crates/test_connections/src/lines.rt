@@ -50,8 +50,8 @@ pub fn served(
 ) -> (String, LineEnd) {
     let mut plain = Plain::new(alloc, 1);
     let end = serve_line(alloc, &mut line, desk, &mut plain);
-    let told = String::from_utf8_lossy(alloc, line.taken()).expect(rt, "memory");
-    (told, end)
+    let text = String::from_utf8_lossy(alloc, line.taken()).expect(rt, "memory");
+    (text, end)
 }
 
 /// Serves a line at a desk, and compares what is told and how it ends.
@@ -62,8 +62,8 @@ fn serves(
     desk: &mut TestDesk,
     want: (&str, LineEnd),
 ) {
-    let (told, end) = served(rt, alloc, line, desk);
-    assert!(rt; told.as_str() == want.0);
+    let (text, end) = served(rt, alloc, line, desk);
+    assert!(rt; text.as_str() == want.0);
     assert!(rt; end == want.1);
 }
 
@@ -183,17 +183,17 @@ fn long_input_is_answered(rt: HostRuntime) -> Result<(), Fail> {
     let said = long_lines(rt.alloc())?;
     let line = line_of(rt.alloc(), said.as_slice(), (4096, 4096))?;
     let fault = FrameFault::LongLine { place: 2050 };
-    let told = "ERROR\r\nCLIENT_ERROR long line\r\n";
-    serves_anew(&rt, rt.alloc(), line, (told, LineEnd::Shut { fault }))
+    let text = "ERROR\r\nCLIENT_ERROR long line\r\n";
+    serves_anew(&rt, rt.alloc(), line, (text, LineEnd::Shut { fault }))
 }
 
 // What is told of so many sessions that begin.
-fn sessions_told(alloc: Global, count: u64) -> Result<String, AllocError> {
-    let mut told = String::new(alloc);
+fn sessions_text(alloc: Global, count: u64) -> Result<String, AllocError> {
+    let mut text = String::new(alloc);
     for number in 1..=count {
-        told.push_str(format!(in alloc; "SESSION {number}\r\n")?.as_str())?;
+        text.push_str(format!(in alloc; "SESSION {number}\r\n")?.as_str())?;
     }
-    Ok(told)
+    Ok(text)
 }
 
 // So many sessions begin.
@@ -208,9 +208,9 @@ fn sessions_begin(alloc: Global, count: u64) -> Result<Vec<u8>, AllocError> {
 #[test]
 fn many_commands_are_answered(rt: HostRuntime) -> Result<(), Fail> {
     let said = sessions_begin(rt.alloc(), 1000)?;
-    let told = sessions_told(rt.alloc(), 1000)?;
+    let text = sessions_text(rt.alloc(), 1000)?;
     let line = line_of(rt.alloc(), said.as_slice(), (65536, 65536))?;
-    let want = (told.as_str(), LineEnd::Closed { left: 0 });
+    let want = (text.as_str(), LineEnd::Closed { left: 0 });
     serves_anew(&rt, rt.alloc(), line, want)
 }
 
@@ -284,7 +284,7 @@ impl Patient {
     }
 
     /// How many lines it took.
-    fn told(&self) -> usize {
+    fn taken_so_far(&self) -> usize {
         let mut lines = 0usize;
         for byte in self.line.taken() {
             if *byte == b'\n' {
@@ -303,7 +303,7 @@ impl Source for Patient {
     ghost write_side = { λ patient. record { taken = None; faults = patient.write_faults } };
 
     fn read(&mut self, room: &mut [u8]) -> Result<usize, Failed> {
-        if self.told() < self.given {
+        if self.taken_so_far() < self.given {
             self.early = self.early.saturating_add(1);
         }
         match self.line.read(room) {
@@ -345,7 +345,7 @@ impl Line for Patient {
 
     ghost writing = { λ _. refl };
 
-    ghost tells_given = { λ _ told. told };
+    ghost tells_given = { λ _ given. given };
 
     ghost finished = { λ patient. patient.line.finished };
 
@@ -364,7 +364,7 @@ fn answers_first(rt: &impl Abort, alloc: Global, at_once: usize, piece: usize) -
     let mut plain = Plain::new(alloc, 1);
     let end = serve_line(alloc, &mut line, &mut desk, &mut plain);
     assert!(rt; end == LineEnd::Closed { left: 0 });
-    assert!(rt; (line.given, line.told(), line.early) == (12, 12, 0));
+    assert!(rt; (line.given, line.taken_so_far(), line.early) == (12, 12, 0));
     Ok(())
 }
 

@@ -8,19 +8,19 @@ use std::process::Abort;
 use std::test::Fail;
 
 /// What is told must go on with this reply to what was said. The text behind it is handed back.
-fn behind<'a>(rt: &impl Abort, told: &'a str, said: &str, want: &str) -> &'a str {
-    match told.strip_prefix(want) {
+fn behind<'a>(rt: &impl Abort, text: &'a str, said: &str, want: &str) -> &'a str {
+    match text.strip_prefix(want) {
         Some(rest) => match rest.strip_prefix("\r\n") {
             Some(rest) => rest,
-            None => panic!(rt; "to {said}: {told}"),
+            None => panic!(rt; "to {said}: {text}"),
         },
-        None => panic!(rt; "to {said}: {told}"),
+        None => panic!(rt; "to {said}: {text}"),
     }
 }
 
 /// What is told goes on with the reply of each pair. The text behind them is handed back.
-fn behind_all<'a>(rt: &impl Abort, told: &'a str, pairs: &[(&str, &str)]) -> &'a str {
-    let mut rest = told;
+fn behind_all<'a>(rt: &impl Abort, text: &'a str, pairs: &[(&str, &str)]) -> &'a str {
+    let mut rest = text;
     for (said, want) in pairs.iter() {
         rest = behind(rt, rest, said, want);
     }
@@ -45,9 +45,9 @@ fn told_of(
 ) -> Result<String, Fail> {
     let line = line_of(alloc, said.as_bytes(), (4096, 4096))?;
     let mut desk = TestDesk::new(alloc, turns)?;
-    let (told, end) = served(rt, alloc, line, &mut desk);
+    let (text, end) = served(rt, alloc, line, &mut desk);
     assert!(rt; end == LineEnd::Closed { left: 0 });
-    Ok(told)
+    Ok(text)
 }
 
 /// A client says what stands in each pair, and is told what stands beside it.
@@ -59,8 +59,8 @@ pub fn talks(
 ) -> Result<(), Fail> {
     let mut said = String::new(alloc);
     say(&mut said, pairs)?;
-    let told = told_of(rt, alloc, turns, said.as_str())?;
-    let rest = behind_all(rt, told.as_str(), pairs);
+    let text = told_of(rt, alloc, turns, said.as_str())?;
+    let rest = behind_all(rt, text.as_str(), pairs);
     assert!(rt; rest.is_empty(), "behind all: {rest}");
     Ok(())
 }
@@ -190,8 +190,8 @@ fn errors_come_in_their_order(rt: HostRuntime) -> Result<(), Fail> {
     say_quarantines(&mut said, rt.alloc(), 64)?;
     say(&mut said, ERRORS_WHEN_FULL)?;
     let granted = grants(rt.alloc(), 64)?;
-    let told = told_of(&rt, rt.alloc(), &[], said.as_str())?;
-    let rest = behind_all(&rt, told.as_str(), ERRORS);
+    let text = told_of(&rt, rt.alloc(), &[], said.as_str())?;
+    let rest = behind_all(&rt, text.as_str(), ERRORS);
     let rest = behind(&rt, rest, "64 quarantines", granted.as_str());
     let rest = behind_all(&rt, rest, ERRORS_WHEN_FULL);
     assert!(&rt; rest.is_empty(), "behind all: {rest}");

@@ -4,7 +4,7 @@ ghost use Rattle.lease_table.specs.declared.records.Mode.TheVariants as Mode;
 ghost use Rattle.key_shard.specs.Answers.{FitsMode, FitsShift};
 ghost use Rattle.session_client.specs.Belongs.{Belongs};
 ghost use Rattle.session_client.specs.Desks.{IsProper};
-ghost use Rattle.session_client.specs.declared.replies.Reply.TheVariants as reply;
+ghost use Rattle.session_client.specs.declared.replies.Reply.TheVariants as Reply;
 ghost use Rattle.session_client.specs.declared.replies.Wanted.TheVariants as wanted;
 ghost use Rattle.key_shard.specs.declared.replies.Rel.{Rel};
 
@@ -69,8 +69,8 @@ impl TestDesk {
             }
             Turn::Taken { key } => {
                 let other = Sid { number: 9 };
-                if let Ok(told) = self.shard.quarantine(key, other, Mode::Refresh, 0, 0) {
-                    Reply::Quar { told }.let_go();
+                if let Ok(answer) = self.shard.quarantine(key, other, Mode::Refresh, 0, 0) {
+                    Reply::Quar { answer }.let_go();
                 }
             }
         }
@@ -133,7 +133,7 @@ impl TestDesk {
             return Reply::Fault { fault };
         }
         match self.shard.set(key, token, value, stamp, 0) {
-            Ok(told) => Reply::Set { told },
+            Ok(answer) => Reply::Set { answer },
             Err(_) => Reply::Fault { fault },
         }
     }
@@ -149,7 +149,7 @@ impl TestDesk {
             return Reply::Fault { fault };
         }
         match self.shard.quarantine(key, who, mode, by, 0) {
-            Ok(told) => Reply::Quar { told },
+            Ok(answer) => Reply::Quar { answer },
             Err(_) => Reply::Fault { fault },
         }
     }
@@ -176,7 +176,7 @@ impl TestDesk {
             return Reply::SarBack { grant };
         }
         match self.shard.replace(grant, value, stamp) {
-            Ok(told) => Reply::Rel { told },
+            Ok(answer) => Reply::Rel { answer },
             Err(Back { grant, value: _ }) => Reply::SarBack { grant },
         }
     }
@@ -193,10 +193,10 @@ impl TestDesk {
 
     fn release(&mut self, grant: Grant, how: How) -> Reply
         requires { FitsMode grant.mode how }
-        ensures { (told : Rel) × (result ≡ reply.Rel told) }
+        ensures { (its_answer : Rel) × (result ≡ Reply.Rel its_answer) }
     {
         Reply::Rel {
-            told: self.shard.release(grant, how),
+            answer: self.shard.release(grant, how),
         }
     }
 }
@@ -238,7 +238,10 @@ impl Desk for TestDesk {
             Wanted::Abort { grant } => self.release(grant, How::Keep),
             // No connection asks for these.
             Wanted::Raise { grant } => Reply::RaiseBack { grant },
-            Wanted::Renew { grant } => Reply::Renew { grant, told: None },
+            Wanted::Renew { grant } => Reply::Renew {
+                grant,
+                answer: None,
+            },
             Wanted::Nothing => Reply::Nothing,
         }
     }

@@ -19,9 +19,9 @@ pub record IsMadeFor (shards parts : ℕ) (word : WordView) (store : PassView) (
 -- What is named is a new hub of this shape: its shards' terms, the store as it was opened, and a word. There was nothing
 -- before.
 pub record IsNewHub (word : WordView) (before : ℕ → List Step) (begun failed : ℕ) (terms : ℕ → Terms) (opening : Tables) (cap : ℕ)
-    (told : Option Tables) (start : Option ℕ) (shape : Shape) (store : StoreView) (its_word : WordView) : Type 0 where
+    (known_rows : Option Tables) (start : Option ℕ) (shape : Shape) (store : StoreView) (its_word : WordView) : Type 0 where
   pub terms_are : terms ≡ terms_at shape.shards shape.room shape.life None
-  pub named : IsNamedStore opening cap told start store
+  pub named : IsNamedStore opening cap known_rows start store
   pub start_is : start ≡ Some store.faults
   pub opened_is : store.ledger ≡ opened store.ledger.opening 8000000
   pub word_is : its_word ≡ word

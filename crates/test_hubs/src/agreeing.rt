@@ -52,7 +52,7 @@ pub fn sid_of(step: &Step, holders: &[Sid]) -> Option<Sid> {
 /// Whether the call tells what the step says, as far as both say it.
 pub fn agrees(call: &Call, step: &Step) -> bool {
     let mark = mark_of(step, call.asked);
-    call.asked == mark.asked && call.told == mark.told && has_value(call, step)
+    call.asked == mark.asked && call.response == mark.response && has_value(call, step)
 }
 
 /// Whether the call has the value that the step names. A quarantine that drops its key has none.
@@ -89,11 +89,11 @@ fn mark_of(step: &Step, asked: Request) -> Mark {
             ..
         } => Mark {
             asked: quarantine(*key, *mode, *shift),
-            told: Response::Granted { token: *token },
+            response: Response::Granted { token: *token },
         },
         Step::Held { key, mode, .. } => Mark {
             asked: quarantine(*key, *mode, by_of(asked)),
-            told: Response::Held,
+            response: Response::Held,
         },
         Step::Refused {
             key,
@@ -103,7 +103,7 @@ fn mark_of(step: &Step, asked: Request) -> Mark {
             ..
         } => Mark {
             asked: quarantine(*key, *mode, by_of(asked)),
-            told: Response::Refused {
+            response: Response::Refused {
                 holder: *holder,
                 mode: *held,
             },
@@ -120,7 +120,7 @@ fn mark_of(step: &Step, asked: Request) -> Mark {
                 key: *key,
                 token: *token,
             },
-            told: Response::Raised { token: *token },
+            response: Response::Raised { token: *token },
         },
         Step::Shared {
             key,
@@ -132,7 +132,7 @@ fn mark_of(step: &Step, asked: Request) -> Mark {
                 key: *key,
                 token: *token,
             },
-            told: Response::Shared { holder: *holder },
+            response: Response::Shared { holder: *holder },
         },
         Step::Renewed {
             key,
@@ -144,8 +144,8 @@ fn mark_of(step: &Step, asked: Request) -> Mark {
                 key: *key,
                 token: *token,
             },
-            told: Response::Renew {
-                told: Some(Renewal::Renewed {
+            response: Response::Renew {
+                answer: Some(Renewal::Renewed {
                     deadline: *deadline,
                 }),
             },
@@ -159,17 +159,17 @@ fn gone(key: QKey, token: u64, asked: Request) -> Mark {
     match asked {
         Request::Raise { .. } => Mark {
             asked: Request::Raise { key, token },
-            told: Response::RaiseGone,
+            response: Response::RaiseGone,
         },
         Request::Renew { .. } => Mark {
             asked: Request::Renew { key, token },
-            told: Response::Renew {
-                told: Some(Renewal::Gone),
+            response: Response::Renew {
+                answer: Some(Renewal::Gone),
             },
         },
         _ => Mark {
             asked: release(key, token, asked),
-            told: Response::Rel { told: Rel::Gone },
+            response: Response::Rel { answer: Rel::Gone },
         },
     }
 }
@@ -187,7 +187,7 @@ fn read(step: &Step, asked: Request) -> Mark {
 
 /// The mark of a get.
 fn got(key: QKey, floor: u64, step: &Step) -> Mark {
-    let told = match step {
+    let response = match step {
         Step::Hit { stamp, .. } => Response::Hit { stamp: *stamp },
         Step::Lease { token, .. } => Response::Lease { token: *token },
         Step::Again { standing, .. } => Response::Again {
@@ -197,7 +197,7 @@ fn got(key: QKey, floor: u64, step: &Step) -> Mark {
     };
     Mark {
         asked: Request::Get { key, floor },
-        told,
+        response,
     }
 }
 
@@ -216,7 +216,7 @@ fn set(step: &Step, asked: Request) -> Mark {
                 token: *token,
                 stamp: *stamp,
             },
-            told: Response::Stored { evicted: *evicted },
+            response: Response::Stored { evicted: *evicted },
         },
         Step::Void { key, token, .. } => Mark {
             asked: Request::Set {
@@ -224,11 +224,11 @@ fn set(step: &Step, asked: Request) -> Mark {
                 token: *token,
                 stamp: stamp_of(asked),
             },
-            told: Response::Void,
+            response: Response::Void,
         },
         _ => Mark {
             asked: Request::Nothing,
-            told: Response::Nothing,
+            response: Response::Nothing,
         },
     }
 }
@@ -269,8 +269,8 @@ fn ended(key: QKey, token: u64, how: &Ended, asked: Request) -> Mark {
     };
     Mark {
         asked,
-        told: Response::Rel {
-            told: Rel::Released { evicted },
+        response: Response::Rel {
+            answer: Rel::Released { evicted },
         },
     }
 }

@@ -45,7 +45,7 @@ pub fn check_calls(rt: &impl Abort, calls: &[Call], wanted: &[Mark]) {
     assert!(rt; calls.len() == wanted.len());
     for (call, mark) in calls.iter().zip(wanted) {
         assert!(rt; call.asked == mark.asked);
-        assert!(rt; call.told == mark.told);
+        assert!(rt; call.response == mark.response);
     }
 }
 
@@ -66,7 +66,7 @@ pub fn check_values(rt: &impl Abort, calls: &[Call], wanted: &[(&str, u64)]) {
 
 /// The stamp of the value that a call hands over, or that it is told.
 fn stamp_of(call: &Call) -> Option<u64> {
-    match call.told {
+    match call.response {
         Response::Hit { stamp } => Some(stamp),
         _ => stamp_given(call.asked),
     }

@@ -67,12 +67,12 @@ const LEASED: Mark = Mark {
         key: PROFILE,
         floor: 0,
     },
-    told: Response::Lease { token: 1 },
+    response: Response::Lease { token: 1 },
 };
 
 const ANSWERED: Mark = Mark {
     asked: Request::Ask { key: PROFILE },
-    told: Response::Answer { stamp: 0 },
+    response: Response::Answer { stamp: 0 },
 };
 
 const STORED: Mark = Mark {
@@ -81,7 +81,7 @@ const STORED: Mark = Mark {
         token: 1,
         stamp: 0,
     },
-    told: Response::Stored { evicted: None },
+    response: Response::Stored { evicted: None },
 };
 
 /// A get of what is stored so.
@@ -90,7 +90,7 @@ const HIT: Mark = Mark {
         key: PROFILE,
         floor: 0,
     },
-    told: Response::Hit { stamp: 0 },
+    response: Response::Hit { stamp: 0 },
 };
 
 /// What is left of a session that stores its answer.
@@ -224,13 +224,13 @@ const RENAMED: QKey = QKey {
 /// A quarantine that is the first of its shard.
 const GRANTED: Mark = Mark {
     asked: Request::QaReg { key: RENAMED },
-    told: Response::Granted { token: 1 },
+    response: Response::Granted { token: 1 },
 };
 
 /// What is asked last at each desk.
 const NOTHING: Mark = Mark {
     asked: Request::Nothing,
-    told: Response::Nothing,
+    response: Response::Nothing,
 };
 
 /// What the two desks tell, the first one in front.
@@ -238,15 +238,15 @@ const TWO_TELL: [Mark; 9] = [
     GRANTED,
     Mark {
         asked: Request::Commit,
-        told: Response::Committed { number: 1 },
+        response: Response::Committed { number: 1 },
     },
     Mark {
         asked: Request::Dar {
             key: RENAMED,
             token: 1,
         },
-        told: Response::Rel {
-            told: Rel::Released { evicted: None },
+        response: Response::Rel {
+            answer: Rel::Released { evicted: None },
         },
     },
     NOTHING,
@@ -336,20 +336,20 @@ const DUE_TELL: [Mark; 14] = [
     GRANTED,
     Mark {
         asked: Request::Commit,
-        told: Response::NotCommitted {
+        response: Response::NotCommitted {
             fault: CommitFault::Ended,
         },
     },
     Mark {
         asked: Request::End,
-        told: Response::End { was: false },
+        response: Response::End { was: false },
     },
     Mark {
         asked: Request::Abort {
             key: RENAMED,
             token: 1,
         },
-        told: Response::Rel { told: Rel::Gone },
+        response: Response::Rel { answer: Rel::Gone },
     },
     NOTHING,
     LEASED,
@@ -362,11 +362,11 @@ const DUE_TELL: [Mark; 14] = [
             key: RENAMED,
             floor: 0,
         },
-        told: Response::Lease { token: 2 },
+        response: Response::Lease { token: 2 },
     },
     Mark {
         asked: Request::Ask { key: RENAMED },
-        told: Response::Answer { stamp: 0 },
+        response: Response::Answer { stamp: 0 },
     },
     Mark {
         asked: Request::Set {
@@ -374,7 +374,7 @@ const DUE_TELL: [Mark; 14] = [
             token: 2,
             stamp: 0,
         },
-        told: Response::Stored { evicted: None },
+        response: Response::Stored { evicted: None },
     },
     NOTHING,
 ];
@@ -497,7 +497,7 @@ const FLOOR_TELLS: [Mark; 12] = [
             key: PROFILE,
             floor: 1,
         },
-        told: Response::Lease { token: 2 },
+        response: Response::Lease { token: 2 },
     },
     ANSWERED,
     Mark {
@@ -506,16 +506,16 @@ const FLOOR_TELLS: [Mark; 12] = [
             token: 2,
             stamp: 0,
         },
-        told: Response::Stored { evicted: None },
+        response: Response::Stored { evicted: None },
     },
     HIT,
     Mark {
         asked: Request::QaRead { key: PROFILE },
-        told: Response::Granted { token: 3 },
+        response: Response::Granted { token: 3 },
     },
     Mark {
         asked: Request::Commit,
-        told: Response::Committed { number: 1 },
+        response: Response::Committed { number: 1 },
     },
     Mark {
         asked: Request::Sar {
@@ -523,8 +523,8 @@ const FLOOR_TELLS: [Mark; 12] = [
             token: 3,
             stamp: 1,
         },
-        told: Response::Rel {
-            told: Rel::Released { evicted: None },
+        response: Response::Rel {
+            answer: Rel::Released { evicted: None },
         },
     },
     Mark {
@@ -532,7 +532,7 @@ const FLOOR_TELLS: [Mark; 12] = [
             key: PROFILE,
             floor: 1,
         },
-        told: Response::Hit { stamp: 1 },
+        response: Response::Hit { stamp: 1 },
     },
     NOTHING,
 ];

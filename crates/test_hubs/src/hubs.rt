@@ -79,14 +79,14 @@ pub fn hub_of<H: BoundName>(
         made.word.0 made.word.1 made.word.2.items made.word.3 }
     requires ledger { (made.ledger.name ≡ H.name) × (made.ledger.parts ≡ H.parts) }
     requires named { IsNewHub H.word H.before H.begun H.failed H.terms H.opening H.cap
-        H.told H.start shape.now store made.word.0 }
-    ensures pass { IfOk result (λ told. told.1.word ≡ H.word) }
+        H.known_rows H.start shape.now store made.word.0 }
+    ensures pass { IfOk result (λ answer. answer.1.word ≡ H.word) }
 {
     let shards = new_shards(alloc, shape.shards, shape.room, shape.life, None)?;
     let store = store.named::<StartOf<H>>();
     let MadeOf { ledger, word } = made;
     match BoundHub::new(alloc, store, shards, ledger, word) {
-        Ok(told) => Ok(told),
+        Ok(answer) => Ok(answer),
         Err(_) => panic!(rt; "memory"),
     }
 }

@@ -12,7 +12,7 @@ use std::alloc::Global;
 pub struct Call {
     pub sid: Sid,
     pub asked: Request,
-    pub told: Response,
+    pub response: Response,
     /// The value that the request hands over, or that a hit gives.
     pub value: Option<Value>,
     /// The transaction that was committed.
@@ -57,8 +57,8 @@ impl<D: Desk + Drop> KeptDesk<D> {
 
     /// Keeps a call, whose request handed over this value.
     fn keep(&mut self, sid: Sid, asked: Request, given: Option<Value>, reply: &Reply) {
-        let told = Response::of(reply);
-        match call_of(sid, asked, told, given, reply) {
+        let response = Response::of(reply);
+        match call_of(sid, asked, response, given, reply) {
             Ok(call) => self.lost = self.lost || self.calls.push(call).is_err(),
             Err(_) => self.lost = true,
         }
@@ -96,14 +96,14 @@ impl<D: Desk + Drop> Desk for KeptDesk<D> {
 fn call_of(
     sid: Sid,
     asked: Request,
-    told: Response,
+    response: Response,
     given: Option<Value>,
     reply: &Reply,
 ) -> Result<Call, Memory> {
     Ok(Call {
         sid,
         asked,
-        told,
+        response,
         value: value_told(reply)?.or(given),
         txn: txn_told(reply)?,
     })

@@ -130,7 +130,7 @@ fn goes_well<H: BoundName + Send + Sync, R: Wait + Abort>(
         made.word.0 made.word.1 made.word.2.items made.word.3 }
     requires ledger { (made.ledger.name ≡ H.name) × (made.ledger.parts ≡ H.parts) }
     requires named { IsNewHub H.word H.before H.begun H.failed H.terms H.opening H.cap
-        H.told H.start shape.now store made.word.0 }
+        H.known_rows H.start shape.now store made.word.0 }
 {
     let (hub, mut pass) = hub_of::<H>(rt, alloc, shape, store, made)?;
     let well = match trial {

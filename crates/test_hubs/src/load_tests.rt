@@ -69,15 +69,15 @@ fn told_on(
 ) -> Result<Vec<(u64, &Call)>, AllocError>
     requires { 1 ≤ count }
 {
-    let mut told = Vec::new(alloc);
+    let mut calls_on = Vec::new(alloc);
     for call in calls {
         if let Some(key) = key_asked(call.asked) {
             if shard_number(&key, count) == shard {
-                told.push((call.sid.number, call))?;
+                calls_on.push((call.sid.number, call))?;
             }
         }
     }
-    sorted(told)
+    sorted(calls_on)
 }
 
 /// Each session was told, on the shard, what its steps there say, in their order.
@@ -91,9 +91,9 @@ fn check_replies(
     requires { 1 ≤ count }
 {
     let made = made_in(rt, alloc, shard.history())?;
-    let told = told_on(alloc, calls, shard.no(), count)?;
-    assert!(rt; told.len() == made.len(), "on shard {}", shard.no());
-    for ((who, call), (sid, step)) in told.iter().zip(&made) {
+    let asked = told_on(alloc, calls, shard.no(), count)?;
+    assert!(rt; asked.len() == made.len(), "on shard {}", shard.no());
+    for ((who, call), (sid, step)) in asked.iter().zip(&made) {
         assert!(rt; who == sid, "on shard {}", shard.no());
         assert!(rt;
             agrees(call, step),
@@ -108,7 +108,7 @@ fn check_replies(
 fn committed(alloc: Global, calls: &[Call]) -> Result<Vec<(u64, &Call)>, AllocError> {
     let mut committed = Vec::new(alloc);
     for call in calls {
-        if let Response::Committed { number } = call.told {
+        if let Response::Committed { number } = call.response {
             committed.push((number, call))?;
         }
     }
@@ -123,10 +123,10 @@ fn check_commits(
     calls: &[Call],
     log: &[Commit],
 ) -> Result<(), AllocError> {
-    let told = committed(alloc, calls)?;
-    assert!(rt; told.len() == log.len());
+    let committed_calls = committed(alloc, calls)?;
+    assert!(rt; committed_calls.len() == log.len());
     let mut place = 0u64;
-    for ((number, call), commit) in told.iter().zip(log) {
+    for ((number, call), commit) in committed_calls.iter().zip(log) {
         place = place.saturating_add(1);
         assert!(rt; *number == place);
         check_commit(rt, call, commit);
@@ -216,15 +216,15 @@ fn sessions(tally: Tally) -> u64 {
 
 /// The tally of the workers is that of the histories and of the log, and counts so many sessions.
 fn check_tally(rt: &impl Abort, ran: &Ran, count: u64) {
-    let told = total(ran.worked.transcripts.as_slice());
+    let total_of_all = total(ran.worked.transcripts.as_slice());
     let kept = Tally {
         commits: ran.log.len() as u64,
-        bypasses: told.bypasses,
-        rejected: told.rejected,
+        bypasses: total_of_all.bypasses,
+        rejected: total_of_all.rejected,
         ..kept(ran.shards.as_slice())
     };
-    assert!(rt; told == kept);
-    assert!(rt; sessions(told) == count);
+    assert!(rt; total_of_all == kept);
+    assert!(rt; sessions(total_of_all) == count);
 }
 
 /// A load that four workers run.

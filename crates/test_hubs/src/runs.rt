@@ -105,7 +105,7 @@ fn run_on<'x, H: BoundName + Send + Sync, G: Gate, R: Threads + Wait + Abort + S
         made.word.0 made.word.1 made.word.2.items made.word.3 }
     requires ledger { (made.ledger.name ≡ H.name) × (made.ledger.parts ≡ H.parts) }
     requires named { IsNewHub H.word H.before H.begun H.failed H.terms H.opening H.cap
-        H.told H.start shape.now store made.word.0 }
+        H.known_rows H.start shape.now store made.word.0 }
     requires plans { All (λ list. All IsPlan list.items) plans.now }
 {
     let (hub, mut pass) = hub_of::<H>(rt, alloc, shape, store, made)?;

@@ -17,7 +17,7 @@ use std::process::Abort;
 
 /// A session, and what is left of a request of its and the reply, or none where it began.
 #[derive(Clone, Copy)]
-pub struct Told {
+pub struct CallMark {
     pub who: Sid,
     pub mark: Option<Mark>,
 }
@@ -33,10 +33,10 @@ struct Kept {
 
 impl Model for Kept {
     ghost use Rattle.std.specs.Option.{option_map, unwrap_or};
-    ghost use Rattle.session_client.specs.Desks.{Call, Began, Asked};
+    ghost use Rattle.session_client.specs.Desks.{Exchange, Began, Asked};
     ghost use Rattle.test_hubs.specs.Telling.{reply_to};
 
-    ghost Value = { Call };
+    ghost Value = { Exchange };
 
     ghost view = { λ k. unwrap_or (option_map (λ wanted. Asked k.who wanted (reply_to wanted)) k.made) (Began k.writes k.who) };
 }
@@ -85,7 +85,7 @@ pub struct TellingDesk<'a, R: Abort> {
     begun: u64,
     calls: Vec<Kept>,
     /// What is left of the calls.
-    told: Vec<Told>,
+    marks: Vec<CallMark>,
     /// How many steps of its sweep it took.
     tended: u64,
 }
@@ -99,7 +99,7 @@ impl<'a, R: Abort> TellingDesk<'a, R> {
             alloc,
             begun: 0,
             calls: Vec::new(alloc),
-            told: Vec::new(alloc),
+            marks: Vec::new(alloc),
             tended: 0,
         }
     }
@@ -110,20 +110,20 @@ impl<'a, R: Abort> TellingDesk<'a, R> {
     }
 
     /// What is left of its calls, in their order. They are let go.
-    pub fn into_told(self) -> Vec<Told> {
+    pub fn into_marks(self) -> Vec<CallMark> {
         let TellingDesk {
             rt: _,
             alloc: _,
             begun: _,
             mut calls,
-            told,
+            marks,
             tended: _,
         } = self;
         while let Some(call) = calls.pop() {
             call.let_go();
         }
         calls.destroy_empty();
-        told
+        marks
     }
 }
 
@@ -138,7 +138,7 @@ impl<'a, R: Abort> Desk for TellingDesk<'a, R> {
         self.begun = self.begun.saturating_add(1);
         let who = Sid { number: self.begun };
         self.calls.reserve(1)?;
-        self.told.push(Told { who, mark: None })?;
+        self.marks.push(CallMark { who, mark: None })?;
         self.calls.push_reserved(Kept::began(writes, who));
         Ok(who)
     }
@@ -148,9 +148,9 @@ impl<'a, R: Abort> Desk for TellingDesk<'a, R> {
         let (wanted, reply) = answer(self.rt, self.alloc, wanted);
         let mark = Some(Mark {
             asked,
-            told: Response::of(&reply),
+            response: Response::of(&reply),
         });
-        if self.calls.reserve(1).is_err() || self.told.push(Told { who, mark }).is_err() {
+        if self.calls.reserve(1).is_err() || self.marks.push(CallMark { who, mark }).is_err() {
             panic!(self.rt; "memory");
         }
         self.calls.push_reserved(Kept::asked(who, wanted));
@@ -242,10 +242,10 @@ fn reply_of<R: Abort>(rt: &R, alloc: Global, wanted: &Wanted) -> Reply
             }
         }
         Wanted::Set { .. } => Reply::Set {
-            told: SetAnswer::Stored { evicted: None },
+            answer: SetAnswer::Stored { evicted: None },
         },
         Wanted::QaReg { .. } | Wanted::QaRead { .. } | Wanted::Delta { .. } => Reply::Quar {
-            told: QAnswer::Held,
+            answer: QAnswer::Held,
         },
         _ => panic!(rt; "a request of a session with grants"),
     }

@@ -1,7 +1,7 @@
 // What is left of a desk's record, beside what the workers' rows tell.
 use crate::checks::{check_ends, check_numbers};
 use crate::plan_texts::lists_of;
-use crate::telling_desks::{TellingDesk, Told};
+use crate::telling_desks::{CallMark, TellingDesk};
 use gate_workers::{Mark, Transcript, work_all};
 use iq_outside::OpenGate;
 use rows_model::Sid;
@@ -10,22 +10,22 @@ use std::process::Abort;
 use std::test::Fail;
 
 /// The call at this place is of this session, and left this.
-fn check_told(rt: &impl Abort, calls: &[Told], place: usize, who: Sid, mark: Option<Mark>) {
-    let Some(told) = calls.get(place) else {
+fn check_mark(rt: &impl Abort, calls: &[CallMark], place: usize, who: Sid, mark: Option<Mark>) {
+    let Some(call) = calls.get(place) else {
         panic!(rt; "a call for each mark");
     };
-    assert!(rt; told.who == who);
-    assert!(rt; told.mark == mark);
+    assert!(rt; call.who == who);
+    assert!(rt; call.mark == mark);
 }
 
 /// What is left of a desk's calls is what the rows tell: that each session began, and its marks.
-fn check_record(rt: &impl Abort, calls: &[Told], transcript: &Transcript) {
+fn check_record(rt: &impl Abort, calls: &[CallMark], transcript: &Transcript) {
     let mut place = 0usize;
     for row in transcript.rows() {
-        check_told(rt, calls, place, row.sid(), None);
+        check_mark(rt, calls, place, row.sid(), None);
         place = place.saturating_add(1);
         for mark in row.marks() {
-            check_told(rt, calls, place, row.sid(), Some(*mark));
+            check_mark(rt, calls, place, row.sid(), Some(*mark));
             place = place.saturating_add(1);
         }
     }
@@ -43,7 +43,7 @@ fn check_desk<R: Abort>(
         panic!(rt; "a transcript for each desk");
     };
     assert!(rt; desk.tended() == transcript.rows().len() as u64);
-    let calls = desk.into_told();
+    let calls = desk.into_marks();
     check_record(rt, calls.as_slice(), transcript);
 }
 

@@ -74,7 +74,7 @@ impl<'a> Line for WatchedLine<'a> {
 
     ghost writing = { λ _. refl };
 
-    ghost tells_given = { λ _ told. told };
+    ghost tells_given = { λ _ given. given };
 
     ghost finished = { λ watched. watched.line.finished };
 

@@ -64,7 +64,12 @@ fn said_of(alloc: Global, line: &str, block: &str) -> Result<Option<(PlainSaid, 
 }
 
 /// What the client of such a line is told.
-fn told(alloc: Global, plain: &mut Plain, line: &str, block: &str) -> Result<Vec<u8>, Memory> {
+fn reply_text(
+    alloc: Global,
+    plain: &mut Plain,
+    line: &str,
+    block: &str,
+) -> Result<Vec<u8>, Memory> {
     let mut out = Vec::new(alloc);
     let Some((said, noreply)) = said_of(alloc, line, block)? else {
         out.extend_from_slice(b"no line")?;
@@ -85,7 +90,7 @@ fn told(alloc: Global, plain: &mut Plain, line: &str, block: &str) -> Result<Vec
 fn plain_commands_are_answered(rt: HostRuntime) -> Result<(), Fail> {
     let mut plain = Plain::new(rt.alloc(), 1);
     for (line, block, wanted) in TALK.iter() {
-        let out = told(rt.alloc(), &mut plain, line, block)?;
+        let out = reply_text(rt.alloc(), &mut plain, line, block)?;
         assert!(rt; out.as_slice() == wanted.as_bytes(), "{line:?}");
     }
     Ok(())

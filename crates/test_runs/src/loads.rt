@@ -67,8 +67,8 @@ fn are_those_kept(totals: &[u64], counts: [u64; 5], kept: u64) -> bool {
     for count in [hits, stores, voids, bypasses, commits, rejected, refused].iter() {
         ends = ends.saturating_add(**count);
     }
-    let told = [*hits, *stores, *voids, *agains, *refused];
-    ends == 20_000 && told == counts && *commits == kept
+    let counted = [*hits, *stores, *voids, *agains, *refused];
+    ends == 20_000 && counted == counts && *commits == kept
 }
 
 /// Whether a run ended done and kept eight histories.

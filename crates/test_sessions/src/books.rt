@@ -112,8 +112,8 @@ fn grant_of(rt: &impl Abort, alloc: Global, asked: Asked) -> Grant {
     };
     match answer {
         Ok(QAnswer::Granted { grant, old: _ }) => grant,
-        Ok(told) => {
-            Reply::Quar { told }.let_go();
+        Ok(answer) => {
+            Reply::Quar { answer }.let_go();
             panic!(rt; "no grant")
         }
         Err(_) => panic!(rt; "no answer"),

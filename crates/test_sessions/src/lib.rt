@@ -15,6 +15,6 @@ mod scripts;
 #[cfg(test)]
 mod sessions;
 #[cfg(test)]
-mod told;
+mod texts;
 #[cfg(test)]
 mod words;

@@ -1,6 +1,6 @@
 ghost use Rattle.run_inputs.specs.Loads.{IsWork};
 
-use crate::told::plan_told;
+use crate::texts::plan_text;
 use crate::words::words_of;
 use run_inputs::{WorkSpec, make_plans, work_words};
 use session_client::Plan;
@@ -9,16 +9,16 @@ use std::process::Abort;
 use std::test::Fail;
 
 // The plans in words, each with a semicolon behind it, and each worker's on a line of its own.
-fn load_told(alloc: Global, workers: &[Vec<Plan>]) -> Result<String, AllocError> {
-    let mut told = String::new(alloc);
+fn load_text(alloc: Global, workers: &[Vec<Plan>]) -> Result<String, AllocError> {
+    let mut text = String::new(alloc);
     for plans in workers {
         for plan in plans {
-            told.push_str(plan_told(alloc, plan)?.as_str())?;
-            told.push(';')?;
+            text.push_str(plan_text(alloc, plan)?.as_str())?;
+            text.push(';')?;
         }
-        told.push('\n')?;
+        text.push('\n')?;
     }
-    Ok(told)
+    Ok(text)
 }
 
 /// Small loads: members, sessions, workers, shards and seed, and the plans of each worker. Another
@@ -70,8 +70,8 @@ fn draws(rt: &impl Abort, alloc: Global, line: &str, want: &str) {
     let spec = load_of(rt, alloc, line);
     let plans = make_plans(alloc, &spec).expect(rt, "memory");
     assert!(rt; plans.len() == spec.workers as usize);
-    let told = load_told(alloc, &plans).expect(rt, "memory");
-    assert!(rt; told.as_str() == want, "at {line}");
+    let text = load_text(alloc, &plans).expect(rt, "memory");
+    assert!(rt; text.as_str() == want, "at {line}");
 }
 
 #[test]
@@ -96,8 +96,8 @@ fn ends_with(rt: &impl Abort, alloc: Global, plans: &[Plan], count: usize, want:
     assert!(rt; plans.len() == count);
     match plans.last() {
         Some(last) => {
-            let told = plan_told(alloc, last).expect(rt, "memory");
-            assert!(rt; told.as_str() == want, "at {want}");
+            let text = plan_text(alloc, last).expect(rt, "memory");
+            assert!(rt; text.as_str() == want, "at {want}");
         }
         None => panic!(rt; "no plan"),
     }

@@ -67,7 +67,7 @@ fn takes_nothing_back(rt: &impl Abort, session: &mut Session)
             panic!(rt; "something to put")
         }
     }
-    tell(rt, session, Reply::Rel { told: Rel::Gone });
+    tell(rt, session, Reply::Rel { answer: Rel::Gone });
 }
 
 #[test]
@@ -236,7 +236,7 @@ const QUARANTINES: &[(&str, &str)] = &[
 const COMMITS: &[(&str, &str)] = &[("commit 1 2 3", "made"), ("sar profile:2 1 none", "gone")];
 
 /// A session that looks is told this of its key, and commits.
-fn looks_and_commits(rt: &impl Abort, alloc: Global, told: &str) {
+fn looks_and_commits(rt: &impl Abort, alloc: Global, text: &str) {
     let mut shard = new_shard(rt, alloc);
     let mut session = begun(rt, alloc, LOOK);
     steps(rt, alloc, &mut session, &mut shard, QUARANTINES);
@@ -245,7 +245,7 @@ fn looks_and_commits(rt: &impl Abort, alloc: Global, told: &str) {
         alloc,
         &mut session,
         &mut shard,
-        &[("get pending:2 0", told)],
+        &[("get pending:2 0", text)],
     );
     steps(rt, alloc, &mut session, &mut shard, COMMITS);
     session.let_go();

@@ -4,7 +4,7 @@ ghost use Rattle.key_shard.specs.Answers.{FitsShift};
 ghost use Rattle.session_client.specs.Follows.{IsReady};
 ghost use Rattle.session_client.specs.Plans.{IsPlan};
 
-use crate::told::wanted_told;
+use crate::texts::wanted_text;
 use key_shard::{Got, Grant, Raising, Rel, SetAnswer, Shard};
 use lease_table::Mode;
 use rows_model::{Kind, QKey, Sid, Txn, Value, touches};
@@ -43,8 +43,8 @@ pub fn store(rt: &impl Abort, alloc: Global, shard: &mut Shard, key: QKey, text:
     match shard.get(key, OTHER, 0, 0) {
         Ok(Got::Lease { token }) => {
             let value = value_of(rt, alloc, text);
-            let told = shard.set(key, token, value, 0, 0);
-            assert!(rt; matches!(told, Ok(SetAnswer::Stored { evicted: None })));
+            let answer = shard.set(key, token, value, 0, 0);
+            assert!(rt; matches!(answer, Ok(SetAnswer::Stored { evicted: None })));
         }
         _ => panic!(rt; "no lease"),
     }
@@ -55,7 +55,7 @@ pub fn hold(rt: &impl Abort, shard: &mut Shard, key: QKey, who: Sid, mode: Mode)
     requires { FitsShift mode (pos 0) }
 {
     match shard.quarantine(key, who, mode, 0, 0) {
-        Ok(told) => Reply::Quar { told }.let_go(),
+        Ok(answer) => Reply::Quar { answer }.let_go(),
         Err(_) => panic!(rt; "no quarantine"),
     }
 }
@@ -117,7 +117,7 @@ pub fn tell(rt: &impl Abort, session: &mut Session, reply: Reply)
     ensures { IsReady session.new }
 {
     if session.takes(&reply) {
-        assert!(rt; session.told(reply) == Ok(()));
+        assert!(rt; session.hear(reply) == Ok(()));
     } else {
         reply.let_go();
         panic!(rt; "no reply to that");
@@ -142,9 +142,9 @@ fn look_up(
     alloc: Global,
     shard: &mut Shard,
     asked: (QKey, u64),
-    told: &str,
+    text: &str,
 ) -> Reply {
-    let got = match told {
+    let got = match text {
         "own" => Got::Own,
         "hit" => Got::Hit {
             value: value_of(rt, alloc, "1"),
@@ -169,7 +169,7 @@ fn quarantine(rt: &impl Abort, shard: &mut Shard, key: QKey, mode: Mode, by: i32
     requires { FitsShift mode by }
 {
     match shard.quarantine(key, WHO, mode, by, 0) {
-        Ok(told) => Reply::Quar { told },
+        Ok(answer) => Reply::Quar { answer },
         Err(fault) => panic!(rt; "{fault:?}"),
     }
 }
@@ -178,27 +178,27 @@ fn quarantine(rt: &impl Abort, shard: &mut Shard, key: QKey, mode: Mode, by: i32
 fn set(rt: &impl Abort, shard: &mut Shard, key: QKey, token: u64, put: (Value, u64)) -> Reply {
     let (value, stamp) = put;
     match shard.set(key, token, value, stamp, 0) {
-        Ok(told) => {
-            assert!(rt; matches!(told, SetAnswer::Stored { evicted: None }));
-            Reply::Set { told }
+        Ok(answer) => {
+            assert!(rt; matches!(answer, SetAnswer::Stored { evicted: None }));
+            Reply::Set { answer }
         }
         Err(fault) => panic!(rt; "{fault:?}"),
     }
 }
 
 /// The store's answer after a transaction, or why there is none.
-fn stage(rt: &impl Abort, alloc: Global, txn: Txn, told: &str) -> Reply {
-    if told == "rejected" {
+fn stage(rt: &impl Abort, alloc: Global, txn: Txn, text: &str) -> Reply {
+    if text == "rejected" {
         let fault = AfterFault::Rejected { index: 0 };
         return Reply::NotStaged { fault, txn };
     }
-    let value = value_of(rt, alloc, told);
+    let value = value_of(rt, alloc, text);
     Reply::Staged { value, txn }
 }
 
 /// The first commit, or why it isn't made.
-fn commit(txn: Txn, grants: Grants, told: &str) -> Reply {
-    let fault = match told {
+fn commit(txn: Txn, grants: Grants, text: &str) -> Reply {
+    let fault = match text {
         "rejected" => CommitFault::Rejected { index: 0 },
         "uncovered" => CommitFault::Uncovered { key: PROFILE },
         _ => {
@@ -215,26 +215,26 @@ fn commit(txn: Txn, grants: Grants, told: &str) -> Reply {
 /// A release of a quarantine that no longer stands.
 fn release(grant: Grant) -> Reply {
     grant.let_go();
-    Reply::Rel { told: Rel::Gone }
+    Reply::Rel { answer: Rel::Gone }
 }
 
 /// A release with a new value, for which there may be no memory.
-fn replace(grant: Grant, told: &str) -> Reply {
-    if told == "back" {
+fn replace(grant: Grant, text: &str) -> Reply {
+    if text == "back" {
         return Reply::SarBack { grant };
     }
     release(grant)
 }
 
 /// What the shard answers to a raise, or that the quarantine is gone, or that memory ran out.
-fn raise(rt: &impl Abort, shard: &mut Shard, grant: Grant, told: &str) -> Reply {
-    if told == "back" {
+fn raise(rt: &impl Abort, shard: &mut Shard, grant: Grant, text: &str) -> Reply {
+    if text == "back" {
         return Reply::RaiseBack { grant };
     }
-    if told == "gone" {
+    if text == "gone" {
         grant.let_go();
         return Reply::Raise {
-            told: Raising::Gone,
+            answer: Raising::Gone,
         };
     }
     if grant.mode() != Mode::Invalidate {
@@ -242,7 +242,7 @@ fn raise(rt: &impl Abort, shard: &mut Shard, grant: Grant, told: &str) -> Reply 
         panic!(rt; "not to invalidate");
     }
     match shard.raise(grant) {
-        Ok(told) => Reply::Raise { told },
+        Ok(answer) => Reply::Raise { answer },
         Err(grant) => {
             grant.let_go();
             panic!(rt; "memory")
@@ -251,16 +251,13 @@ fn raise(rt: &impl Abort, shard: &mut Shard, grant: Grant, told: &str) -> Reply 
 }
 
 /// What the shard answers to a renewal, or that memory ran out.
-fn renew(shard: &mut Shard, grant: Grant, told: &str) -> Reply {
-    let answer = if told == "memory" {
+fn renew(shard: &mut Shard, grant: Grant, text: &str) -> Reply {
+    let answer = if text == "memory" {
         None
     } else {
         shard.renew(&grant, 0).ok()
     };
-    Reply::Renew {
-        grant,
-        told: answer,
-    }
+    Reply::Renew { grant, answer }
 }
 
 /// What a request is told: by a shard, or as a word says.
@@ -269,12 +266,12 @@ fn reply_to(
     alloc: Global,
     shard: &mut Shard,
     wanted: Wanted,
-    told: &str,
+    text: &str,
 ) -> Reply {
     match wanted {
-        Wanted::Get { key, floor } => look_up(rt, alloc, shard, (key, floor), told),
-        Wanted::Ask { key } => answer(rt, alloc, key, told),
-        Wanted::Staged { key: _, txn } => stage(rt, alloc, txn, told),
+        Wanted::Get { key, floor } => look_up(rt, alloc, shard, (key, floor), text),
+        Wanted::Ask { key } => answer(rt, alloc, key, text),
+        Wanted::Staged { key: _, txn } => stage(rt, alloc, txn, text),
         Wanted::Set {
             key,
             token,
@@ -284,7 +281,7 @@ fn reply_to(
         Wanted::QaReg { key } => quarantine(rt, shard, key, Mode::Invalidate, 0),
         Wanted::QaRead { key } => quarantine(rt, shard, key, Mode::Refresh, 0),
         Wanted::Delta { key, by } => quarantine(rt, shard, key, Mode::Delta, by),
-        Wanted::Commit { txn, grants } => commit(txn, grants, told),
+        Wanted::Commit { txn, grants } => commit(txn, grants, text),
         Wanted::End => Reply::End { was: true },
         Wanted::Dar { grant } | Wanted::Apply { grant, stamp: _ } | Wanted::Abort { grant } => {
             release(grant)
@@ -293,9 +290,9 @@ fn reply_to(
             grant,
             value: _,
             stamp: _,
-        } => replace(grant, told),
-        Wanted::Raise { grant } => raise(rt, shard, grant, told),
-        Wanted::Renew { grant } => renew(shard, grant, told),
+        } => replace(grant, text),
+        Wanted::Raise { grant } => raise(rt, shard, grant, text),
+        Wanted::Renew { grant } => renew(shard, grant, text),
         Wanted::Nothing => Reply::Nothing,
     }
 }
@@ -316,12 +313,12 @@ fn step(rt: &impl Abort, alloc: Global, session: &mut Session, shard: &mut Shard
     requires { IsReady session.old }
     ensures { IsReady session.new }
 {
-    let (want, told) = row;
+    let (want, its_text) = row;
     assert!(rt; session.done() == None);
     let wanted = session.wants();
-    let text = wanted_told(alloc, &wanted).expect(rt, "memory");
+    let text = wanted_text(alloc, &wanted).expect(rt, "memory");
     assert!(rt; text.as_str() == want, "{text} is wanted, and not {want}");
-    let reply = reply_to(rt, alloc, shard, wanted, told);
+    let reply = reply_to(rt, alloc, shard, wanted, its_text);
     tell(rt, session, reply);
 }
 

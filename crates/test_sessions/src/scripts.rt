@@ -1,4 +1,4 @@
-use crate::told::plan_told;
+use crate::texts::plan_text;
 use run_inputs::ScriptKind::*;
 use run_inputs::{Act, Script, ScriptFault, ScriptKind};
 use session_client::Turn;
@@ -252,9 +252,9 @@ fn turns_are_bounded(rt: HostRuntime) -> Result<(), Fail> {
     Ok(())
 }
 
-fn act_told(alloc: Global, act: &Act) -> Result<String, AllocError> {
+fn act_text(alloc: Global, act: &Act) -> Result<String, AllocError> {
     match act {
-        Act::Add { plan } => plan_told(alloc, plan),
+        Act::Add { plan } => plan_text(alloc, plan),
         Act::Run {
             turn: Turn::Session { sid },
             count,
@@ -310,25 +310,25 @@ const SCRIPTS: [(&str, &str); 11] = [
 ];
 
 // What a text says: members, shards, room and life, and its acts.
-fn script_told(alloc: Global, script: &Script) -> Result<String, AllocError> {
+fn script_text(alloc: Global, script: &Script) -> Result<String, AllocError> {
     let shape = script.shape();
-    let mut told = format!(in alloc;
+    let mut text = format!(in alloc;
         "{} {} {} {}; ",
         shape.members, shape.shards, shape.room, shape.life
     )?;
     for act in script.acts().iter() {
-        told.push_str(act_told(alloc, act)?.as_str())?;
-        told.push_str("; ")?;
+        text.push_str(act_text(alloc, act)?.as_str())?;
+        text.push_str("; ")?;
     }
-    Ok(told)
+    Ok(text)
 }
 
 /// The text is a script that says this, and its acts are as many when they are taken out.
 fn says(rt: &impl Abort, alloc: Global, text: &str, want: &str) {
     match Script::parse(alloc, text.as_bytes()) {
         Ok(script) => {
-            let told = script_told(alloc, &script).expect(rt, "memory");
-            assert!(rt; told.as_str() == want, "at {text}");
+            let its_text = script_text(alloc, &script).expect(rt, "memory");
+            assert!(rt; its_text.as_str() == want, "at {text}");
             let count = script.acts().len();
             assert!(rt; script.into_acts().len() == count, "at {text}");
         }

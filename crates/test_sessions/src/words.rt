@@ -14,7 +14,7 @@ pub fn words_of(alloc: Global, line: &str) -> Result<Vec<Vec<u8>>, AllocError> {
 }
 
 // The words that name a place, behind a space.
-fn place_told(alloc: Global, place: &Place) -> Result<String, AllocError> {
+fn place_text(alloc: Global, place: &Place) -> Result<String, AllocError> {
     match place {
         Place::Fresh => Ok(String::new(alloc)),
         Place::File { path } => format!(in alloc;
@@ -25,7 +25,7 @@ fn place_told(alloc: Global, place: &Place) -> Result<String, AllocError> {
 }
 
 // The word for how many connections are served.
-fn conns_told(alloc: Global, conns: Conns) -> Result<String, AllocError> {
+fn conns_text(alloc: Global, conns: Conns) -> Result<String, AllocError> {
     match conns {
         Conns::Number(count) => format!(in alloc; "{count}"),
         Conns::Forever => format!(in alloc; "forever"),
@@ -34,12 +34,12 @@ fn conns_told(alloc: Global, conns: Conns) -> Result<String, AllocError> {
 
 // What is read of words, as one line: the command with its place and its numbers, the first line of a
 // text, or the fault.
-fn told(alloc: Global, words: &[Vec<u8>]) -> Result<String, AllocError> {
+fn words_text(alloc: Global, words: &[Vec<u8>]) -> Result<String, AllocError> {
     match read_words(alloc, words) {
-        Ok(Words::Replay { place }) => format!(in alloc; "replay{}", place_told(alloc, &place)?),
+        Ok(Words::Replay { place }) => format!(in alloc; "replay{}", place_text(alloc, &place)?),
         Ok(Words::Work { place, spec }) => format!(in alloc;
             "work{} {} {} {} {} {}",
-            place_told(alloc, &place)?,
+            place_text(alloc, &place)?,
             spec.members,
             spec.sessions,
             spec.workers,
@@ -48,14 +48,14 @@ fn told(alloc: Global, words: &[Vec<u8>]) -> Result<String, AllocError> {
         ),
         Ok(Words::Serve { place, spec }) => format!(in alloc;
             "serve{} {} {} {} {} {}",
-            place_told(alloc, &place)?,
+            place_text(alloc, &place)?,
             String::from_utf8_lossy(alloc, spec.addr.as_slice())?,
-            conns_told(alloc, spec.conns)?,
+            conns_text(alloc, spec.conns)?,
             spec.workers,
             spec.shards,
             spec.members
         ),
-        Ok(Words::Told { text }) => format!(in alloc;
+        Ok(Words::Text { text }) => format!(in alloc;
             "told {}",
             String::from_utf8_lossy(alloc, text.as_slice())?
         ),
@@ -65,15 +65,15 @@ fn told(alloc: Global, words: &[Vec<u8>]) -> Result<String, AllocError> {
 }
 
 /// What is read of the words of a line.
-fn line_told(rt: &impl Abort, alloc: Global, line: &str) -> String {
+fn line_text(rt: &impl Abort, alloc: Global, line: &str) -> String {
     let words = words_of(alloc, line).expect(rt, "memory");
-    told(alloc, &words).expect(rt, "memory")
+    words_text(alloc, &words).expect(rt, "memory")
 }
 
 /// This is read of the words of a line.
 fn reads(rt: &impl Abort, alloc: Global, line: &str, want: &str) {
-    let told = line_told(rt, alloc, line);
-    assert!(rt; told.as_str() == want, "at {line:?}");
+    let text = line_text(rt, alloc, line);
+    assert!(rt; text.as_str() == want, "at {line:?}");
 }
 
 /// Lines that are read as they stand.
@@ -178,16 +178,16 @@ const FILE: [&[u8]; 3] = [b"replay", b"--db", b"\xff"];
 #[test]
 fn other_words_are_no_commands(rt: HostRuntime) -> Result<(), Fail> {
     let mut words = Vec::new(rt.alloc());
-    assert!(rt; told(rt.alloc(), &words)?.as_str() == "usage");
+    assert!(rt; words_text(rt.alloc(), &words)?.as_str() == "usage");
     for word in BYTES.iter() {
         words.push(Vec::from_slice(rt.alloc(), word)?)?;
     }
-    assert!(rt; told(rt.alloc(), &words)?.as_str() == "usage");
+    assert!(rt; words_text(rt.alloc(), &words)?.as_str() == "usage");
     words.clear();
     for word in FILE.iter() {
         words.push(Vec::from_slice(rt.alloc(), word)?)?;
     }
-    assert!(rt; told(rt.alloc(), &words)?.as_str() == "usage");
+    assert!(rt; words_text(rt.alloc(), &words)?.as_str() == "usage");
     Ok(())
 }
 
@@ -226,7 +226,7 @@ const TEXTS: [(&str, &str); 6] = [
 
 /// A text is told, and this stands in it.
 fn tells(rt: &impl Abort, alloc: Global, line: &str, want: &str) {
-    let text = line_told(rt, alloc, line);
+    let text = line_text(rt, alloc, line);
     assert!(rt; text.as_str().starts_with("told "), "at {line:?}");
     assert!(rt; text.as_str().contains(want), "at {line:?}: {text}");
 }

@@ -101,9 +101,9 @@ impl Desk {
         match answer {
             QAnswer::Granted { grant, old } => {
                 assert!(rt; grant.key() == key && grant.sid() == who);
-                let told = given_told(alloc, "granted", grant.token(), old);
+                let text = given_text(alloc, "granted", grant.token(), old);
                 self.hold(grant);
-                told
+                text
             }
             QAnswer::Held => format!(in alloc; "held"),
             QAnswer::Refused { holder, mode } => {
@@ -122,9 +122,9 @@ impl Desk {
         match answer {
             Raising::Raised { grant, old } => {
                 assert!(rt; matches!(grant.mode(), Mode::Refresh));
-                let told = given_told(alloc, "raised", grant.token(), old);
+                let text = given_text(alloc, "raised", grant.token(), old);
                 self.hold(grant);
-                told
+                text
             }
             Raising::Shared { grant, holder } => {
                 assert!(rt; matches!(grant.mode(), Mode::Invalidate));
@@ -140,7 +140,7 @@ fn text_of(alloc: Global, value: &Value) -> Result<String, AllocError> {
     String::from_utf8_lossy(alloc, value.bytes())
 }
 
-fn given_told(
+fn given_text(
     alloc: Global,
     word: &str,
     token: u64,
@@ -154,7 +154,7 @@ fn given_told(
     }
 }
 
-pub fn fault_told(alloc: Global, fault: ShardFault) -> Result<String, AllocError> {
+pub fn fault_text(alloc: Global, fault: ShardFault) -> Result<String, AllocError> {
     match fault {
         ShardFault::Stranger { shard } => format!(in alloc; "stranger {shard}"),
         ShardFault::Spent { next } => format!(in alloc; "spent {next}"),
@@ -163,7 +163,7 @@ pub fn fault_told(alloc: Global, fault: ShardFault) -> Result<String, AllocError
 }
 
 /// Tells the answer to a get.
-pub fn got_told(alloc: Global, answer: Result<Got, ShardFault>) -> Result<String, AllocError> {
+pub fn got_text(alloc: Global, answer: Result<Got, ShardFault>) -> Result<String, AllocError> {
     match answer {
         Ok(Got::Hit { value, stamp }) => {
             format!(in alloc; "hit {} {stamp}", text_of(alloc, &value)?)
@@ -171,12 +171,12 @@ pub fn got_told(alloc: Global, answer: Result<Got, ShardFault>) -> Result<String
         Ok(Got::Lease { token }) => format!(in alloc; "lease {token}"),
         Ok(Got::Again { standing }) => format!(in alloc; "again {standing:?}"),
         Ok(Got::Own) => format!(in alloc; "own"),
-        Err(fault) => fault_told(alloc, fault),
+        Err(fault) => fault_text(alloc, fault),
     }
 }
 
 /// Tells the answer to a set.
-pub fn set_told(
+pub fn set_text(
     alloc: Global,
     answer: Result<SetAnswer, ShardFault>,
 ) -> Result<String, AllocError> {
@@ -184,12 +184,12 @@ pub fn set_told(
         Ok(SetAnswer::Stored { evicted: None }) => format!(in alloc; "stored"),
         Ok(SetAnswer::Stored { evicted: Some(key) }) => format!(in alloc; "stored for {}", key.id),
         Ok(SetAnswer::Void) => format!(in alloc; "void"),
-        Err(fault) => fault_told(alloc, fault),
+        Err(fault) => fault_text(alloc, fault),
     }
 }
 
 /// Tells the answer to a renewal.
-pub fn renewal_told(alloc: Global, answer: Result<Renewal, Memory>) -> Result<String, AllocError> {
+pub fn renewal_text(alloc: Global, answer: Result<Renewal, Memory>) -> Result<String, AllocError> {
     match answer {
         Ok(Renewal::Renewed { deadline }) => format!(in alloc; "renewed until {deadline}"),
         Ok(Renewal::Gone) => format!(in alloc; "gone"),
@@ -198,7 +198,7 @@ pub fn renewal_told(alloc: Global, answer: Result<Renewal, Memory>) -> Result<St
 }
 
 /// Tells the answer to a release.
-pub fn rel_told(alloc: Global, answer: Rel) -> Result<String, AllocError> {
+pub fn rel_text(alloc: Global, answer: Rel) -> Result<String, AllocError> {
     match answer {
         Rel::Released { evicted: None } => format!(in alloc; "released"),
         Rel::Released { evicted: Some(key) } => format!(in alloc; "released for {}", key.id),

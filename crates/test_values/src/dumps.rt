@@ -112,8 +112,8 @@ fn loaded(
     let read = read(rt, alloc, text).rows.into_rows();
     match are_answers(rows, read.as_slice()) {
         Ok(true) if read.len() <= 4 => {
-            let told = load(rows, &mut shard, read, 0);
-            (told, shard)
+            let loaded_rows = load(rows, &mut shard, read, 0);
+            (loaded_rows, shard)
         }
         _ => panic!(rt; "not the store's answers"),
     }
@@ -136,8 +136,8 @@ fn loads_what_was_dumped_beside_the_same_store(rt: HostRuntime) {
     let Ok((mut new, _, _)) = old.rebase() else {
         panic!(rt; "no memory");
     };
-    let (told, mut shard) = loaded(&rt, rt.alloc(), &mut new, &text, (0, 1, 1));
-    assert!(rt; told == Ok(1));
+    let (loaded_rows, mut shard) = loaded(&rt, rt.alloc(), &mut new, &text, (0, 1, 1));
+    assert!(rt; loaded_rows == Ok(1));
     assert!(rt; matches!(shard.history(), [Step::Lease { .. }, Step::Stored { .. }]));
     hits(&rt, &mut shard, 3, "m3 0 0");
     assert!(rt; begun(&rt, &mut new).number == 3);
@@ -159,8 +159,8 @@ fn tells_a_stranger_before_all(rt: HostRuntime) {
     let mut rows = opened(&rt, rt.alloc());
     let text =
         b"iqdump 1 0 1 3\nprofile:1 6\nm1 0 0\nprofile:3 6\nm3 0 0\nprofile:2 6\nm2 0 0\nend\n";
-    let (told, shard) = loaded(&rt, rt.alloc(), &mut rows, text, (1, 2, 1));
-    assert!(rt; told == Err(LoadFault::Stranger { row: 2 }) && shard.history().is_empty());
+    let (loaded_rows, shard) = loaded(&rt, rt.alloc(), &mut rows, text, (1, 2, 1));
+    assert!(rt; loaded_rows == Err(LoadFault::Stranger { row: 2 }) && shard.history().is_empty());
     assert!(rt; begun(&rt, &mut rows).number == 1);
 }
 
@@ -169,8 +169,8 @@ fn keeps_the_rows_before_the_one_without_a_token(rt: HostRuntime) {
     let mut rows = opened(&rt, rt.alloc());
     let text = b"iqdump 1 0 1 2\nprofile:1 6\nm1 0 0\nprofile:2 6\nm2 0 0\nend\n";
     let last = 18_446_744_073_709_551_615;
-    let (told, mut shard) = loaded(&rt, rt.alloc(), &mut rows, text, (0, 1, last - 1));
-    assert!(rt; told == Err(LoadFault::Spent { next: last }));
+    let (loaded_rows, mut shard) = loaded(&rt, rt.alloc(), &mut rows, text, (0, 1, last - 1));
+    assert!(rt; loaded_rows == Err(LoadFault::Spent { next: last }));
     hits(&rt, &mut shard, 1, "m1 0 0");
     assert!(rt; shard.peek(&profile(2)).is_none());
 }

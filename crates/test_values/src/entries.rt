@@ -60,7 +60,7 @@ fn dropped(
 }
 
 /// Makes the call, and tells its answer.
-fn told(
+fn call_text(
     rt: &impl Abort,
     alloc: Global,
     table: &mut Entries,
@@ -96,8 +96,8 @@ fn check(rt: &impl Abort, alloc: Global, room: u32, calls: &[(Call, &str)])
 {
     let mut table = new_table(rt, alloc, room);
     for (call, want) in calls.iter() {
-        match told(rt, alloc, &mut table, *call) {
-            Ok(told) => assert!(rt; told.as_str() == *want, "{told}"),
+        match call_text(rt, alloc, &mut table, *call) {
+            Ok(answer) => assert!(rt; answer.as_str() == *want, "{answer}"),
             Err(_) => panic!(rt; "no memory"),
         }
     }
@@ -163,8 +163,8 @@ fn puts(
     stamp: u64,
 ) {
     let (one, other) = values;
-    let (told, want) = (cache.put(key, one, stamp), list.put(key, other, stamp));
-    assert!(rt; told == want);
+    let (answer, want) = (cache.put(key, one, stamp), list.put(key, other, stamp));
+    assert!(rt; answer == want);
 }
 
 /// Puts the values, which are the same, in the places of others, and compares the answers.
@@ -177,11 +177,11 @@ fn reputs(
     stamp: u64,
 ) {
     let (one, other) = values;
-    let (told, want) = (
+    let (answer, want) = (
         cache.reput(&key, one, stamp),
         list.reput(&key, other, stamp),
     );
-    assert!(rt; told == want);
+    assert!(rt; answer == want);
 }
 
 /// Makes a call that is drawn, of both tables, and compares their answers.

@@ -95,8 +95,8 @@ fn drawn(draws: &mut Draws, list: &ListTable, fresh: u64) -> Turn
 }
 
 /// Compares two verdicts.
-fn is_same(rt: &impl Abort, told: Verdict, want: Verdict) {
-    assert!(rt; word(told) == word(want));
+fn is_same(rt: &impl Abort, verdict: Verdict, want: Verdict) {
+    assert!(rt; word(verdict) == word(want));
 }
 
 /// What changes nothing answers the same.

@@ -68,7 +68,7 @@ enum Call {
     Due(u64),
 }
 
-fn quar_told(alloc: Global, quar: Option<Quar>) -> Result<String, AllocError> {
+fn quar_text(alloc: Global, quar: Option<Quar>) -> Result<String, AllocError> {
     match quar {
         Some(
             Quar {
@@ -88,7 +88,7 @@ fn quar_told(alloc: Global, quar: Option<Quar>) -> Result<String, AllocError> {
     }
 }
 
-fn due_told(alloc: Global, due: Option<Due>) -> Result<String, AllocError> {
+fn due_text(alloc: Global, due: Option<Due>) -> Result<String, AllocError> {
     match due {
         Some(Due { key, sid, token }) => {
             format!(in alloc; "{:?} {} of {} by {token}", key.kind, key.id, sid.number)
@@ -130,7 +130,7 @@ fn quarantine(
 }
 
 /// Makes the call, and tells its answer.
-fn told(
+fn call_text(
     rt: &impl Abort,
     alloc: Global,
     leases: &mut Leases,
@@ -145,8 +145,8 @@ fn told(
             String::from_str(alloc, word(verdict))
         }
         Call::Take(key, token, now) => format!(in alloc; "{}", leases.take_i(&key, token, now)),
-        Call::End(key, token) => quar_told(alloc, leases.end_q(&key, token)),
-        Call::Holder(key, sid) => quar_told(alloc, leases.holder(&key, Sid { number: sid })),
+        Call::End(key, token) => quar_text(alloc, leases.end_q(&key, token)),
+        Call::Holder(key, sid) => quar_text(alloc, leases.holder(&key, Sid { number: sid })),
         Call::Standing(key, sid) => {
             format!(in alloc; "{}", leases.standing(&key, Sid { number: sid }, 0))
         }
@@ -157,7 +157,7 @@ fn told(
         Call::Renew(key, token, deadline) => {
             format!(in alloc; "{}", leases.renew(&key, token, deadline))
         }
-        Call::Due(now) => due_told(alloc, leases.expired(now)),
+        Call::Due(now) => due_text(alloc, leases.expired(now)),
     }
 }
 
@@ -165,8 +165,8 @@ fn told(
 fn check(rt: &impl Abort, alloc: Global, calls: &[(Call, &str)]) {
     let mut leases = Leases::new(alloc);
     for (call, want) in calls.iter() {
-        match told(rt, alloc, &mut leases, *call) {
-            Ok(told) => assert!(rt; told.as_str() == *want, "{told}"),
+        match call_text(rt, alloc, &mut leases, *call) {
+            Ok(answer) => assert!(rt; answer.as_str() == *want, "{answer}"),
             Err(_) => panic!(rt; "no memory"),
         }
     }

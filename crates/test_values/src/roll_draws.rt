@@ -3,7 +3,7 @@ ghost use Rattle.std.specs.Prelude.{◌≤◌, ◌<◌, ◌^◌};
 
 use crate::desks::Desk;
 use crate::draws::Draws;
-use crate::shards::{Call, told};
+use crate::shards::{Call, call_text};
 use crate::step_kinds::{KINDS, kind_of};
 use key_shard::Step;
 use lease_table::Mode;
@@ -81,8 +81,11 @@ fn drawn(draws: &mut Draws, desk: &mut Desk, turn: u64) -> Call {
 
 /// Makes the call of both, and compares the answers.
 fn answers_alike(rt: &impl Abort, alloc: Global, whole: &mut Desk, rolling: &mut Desk, call: Call) {
-    match (told(rt, alloc, whole, call), told(rt, alloc, rolling, call)) {
-        (Ok(want), Ok(told)) => assert!(rt; told == want, "{told} and not {want}"),
+    match (
+        call_text(rt, alloc, whole, call),
+        call_text(rt, alloc, rolling, call),
+    ) {
+        (Ok(want), Ok(text)) => assert!(rt; text == want, "{text} and not {want}"),
         _ => panic!(rt; "no memory"),
     }
 }

@@ -105,7 +105,7 @@ fn tell(alloc: Global, rows: &Rows, id: u32, all: &mut Vec<u8>) -> Result<(), Me
 }
 
 /// The answers about the members from one to before another.
-fn told(alloc: Global, rows: &Rows, from: u32, to: u32) -> Result<Vec<u8>, Memory> {
+fn rows_text(alloc: Global, rows: &Rows, from: u32, to: u32) -> Result<Vec<u8>, Memory> {
     let mut all = Vec::new(alloc);
     for id in from..to {
         tell(alloc, rows, id, &mut all)?;
@@ -115,7 +115,7 @@ fn told(alloc: Global, rows: &Rows, from: u32, to: u32) -> Result<Vec<u8>, Memor
 
 /// Compares all answers about these members.
 fn tells(rt: &impl Abort, alloc: Global, rows: &Rows, from: u32, to: u32, want: &str) {
-    match told(alloc, rows, from, to) {
+    match rows_text(alloc, rows, from, to) {
         Ok(all) => assert!(rt; all.as_slice() == want.as_bytes(), "{want}"),
         Err(_) => panic!(rt; "no memory"),
     }
@@ -123,12 +123,12 @@ fn tells(rt: &impl Abort, alloc: Global, rows: &Rows, from: u32, to: u32, want: 
 
 /// Applies a transaction that is to be rejected at this place, or at none.
 fn applies(rt: &impl Abort, alloc: Global, rows: &mut Rows, changes: &str, at: Option<u32>) {
-    let told = match rows.apply(&txn_of(rt, alloc, changes)) {
+    let place = match rows.apply(&txn_of(rt, alloc, changes)) {
         Ok(()) => None,
         Err(ApplyFault::Rejected { index }) => Some(index),
         Err(ApplyFault::Memory) => panic!(rt; "no memory"),
     };
-    assert!(rt; told == at, "{changes}");
+    assert!(rt; place == at, "{changes}");
 }
 
 /// What is applied in turn, and all answers about member 1 after it.

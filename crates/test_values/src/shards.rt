@@ -2,7 +2,7 @@
 ghost use Rattle.std.specs.Prelude.{◌≤◌};
 ghost use Rattle.key_shard.specs.Answers.{FitsShift};
 
-use crate::desks::{Desk, fault_told, got_told, rel_told, renewal_told, set_told};
+use crate::desks::{Desk, fault_text, got_text, rel_text, renewal_text, set_text};
 use crate::txns::value_of;
 use key_shard::{Back, Base, How, Rel};
 use lease_table::{Due, Mode};
@@ -67,7 +67,7 @@ fn set(
     now: u64,
 ) -> Result<String, AllocError> {
     let value = value_of(rt, alloc, text);
-    set_told(alloc, desk.shard.set(profile(id), token, value, stamp, now))
+    set_text(alloc, desk.shard.set(profile(id), token, value, stamp, now))
 }
 
 /// Asks for a quarantine, and holds the grant.
@@ -86,7 +86,7 @@ fn quarantine(
     let (key, who) = (profile(id), Sid { number: who });
     match desk.shard.quarantine(key, who, mode, shift, now) {
         Ok(answer) => desk.asked(rt, alloc, key, who, answer),
-        Err(fault) => fault_told(alloc, fault),
+        Err(fault) => fault_text(alloc, fault),
     }
 }
 
@@ -152,7 +152,7 @@ fn renew(rt: &impl Abort, alloc: Global, desk: &mut Desk, now: u64) -> Result<St
     let grant = desk.take(rt);
     let answer = desk.shard.renew(&grant, now);
     desk.hold(grant);
-    renewal_told(alloc, answer)
+    renewal_text(alloc, answer)
 }
 
 /// Sweeps a key that is to be the shard's.
@@ -162,11 +162,11 @@ fn sweep(rt: &impl Abort, desk: &mut Desk, id: u32, token: u64) -> Rel {
     desk.shard.sweep_drop(key, token)
 }
 
-fn base_told(alloc: Global, base: &Base) -> Result<String, AllocError> {
+fn base_text(alloc: Global, base: &Base) -> Result<String, AllocError> {
     format!(in alloc; "{} {}", base.dropped(), base.next())
 }
 
-fn due_told(alloc: Global, due: Option<Due>) -> Result<String, AllocError> {
+fn due_text(alloc: Global, due: Option<Due>) -> Result<String, AllocError> {
     match due {
         Some(Due { key, sid, token }) if key.kind == Kind::Profile => {
             format!(in alloc; "{} {} {token}", key.id, sid.number)
@@ -177,7 +177,7 @@ fn due_told(alloc: Global, due: Option<Due>) -> Result<String, AllocError> {
 }
 
 /// Makes the call, and tells its answer.
-pub fn told(
+pub fn call_text(
     rt: &impl Abort,
     alloc: Global,
     desk: &mut Desk,
@@ -186,7 +186,7 @@ pub fn told(
     match call {
         Call::Get(id, who, floor, now) => {
             let who = Sid { number: who };
-            got_told(alloc, desk.shard.get(profile(id), who, floor, now))
+            got_text(alloc, desk.shard.get(profile(id), who, floor, now))
         }
         Call::Set(id, token, text, stamp, now) => set(rt, alloc, desk, id, token, text, stamp, now),
         Call::Invalidate(id, who, now) => {
@@ -194,25 +194,25 @@ pub fn told(
         }
         Call::Refresh(id, who) => quarantine(rt, alloc, desk, id, who, Mode::Refresh, 0, 0),
         Call::Delta(id, who, by, now) => quarantine(rt, alloc, desk, id, who, Mode::Delta, by, now),
-        Call::Keep => rel_told(alloc, keep(rt, desk)),
-        Call::Drop => rel_told(alloc, drop_entry(rt, desk)),
-        Call::Shift(stamp) => rel_told(alloc, shift(rt, desk, stamp)),
-        Call::Replace(text, stamp) => rel_told(alloc, replace(rt, alloc, desk, text, stamp)),
+        Call::Keep => rel_text(alloc, keep(rt, desk)),
+        Call::Drop => rel_text(alloc, drop_entry(rt, desk)),
+        Call::Shift(stamp) => rel_text(alloc, shift(rt, desk, stamp)),
+        Call::Replace(text, stamp) => rel_text(alloc, replace(rt, alloc, desk, text, stamp)),
         Call::Raise => raise(rt, alloc, desk),
         Call::Renew(now) => renew(rt, alloc, desk, now),
         Call::Change => desk.change_hands(alloc),
-        Call::Due(now) => due_told(alloc, desk.shard.expired(now)),
-        Call::Sweep(id, token) => rel_told(alloc, sweep(rt, desk, id, token)),
+        Call::Due(now) => due_text(alloc, desk.shard.expired(now)),
+        Call::Sweep(id, token) => rel_text(alloc, sweep(rt, desk, id, token)),
         Call::Steps => format!(in alloc; "{}", desk.shard.history().len()),
-        Call::Base => base_told(alloc, desk.shard.base()),
+        Call::Base => base_text(alloc, desk.shard.base()),
     }
 }
 
 /// Makes the calls in turn, and compares the answers.
 pub fn play(rt: &impl Abort, alloc: Global, desk: &mut Desk, calls: &[(Call, &str)]) {
     for (call, want) in calls.iter() {
-        match told(rt, alloc, desk, *call) {
-            Ok(told) => assert!(rt; told.as_str() == *want, "{told} and not {want}"),
+        match call_text(rt, alloc, desk, *call) {
+            Ok(answer) => assert!(rt; answer.as_str() == *want, "{answer} and not {want}"),
             Err(_) => panic!(rt; "no memory"),
         }
     }

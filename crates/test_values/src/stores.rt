@@ -71,11 +71,11 @@ fn commits(
     grants: &[Grant],
     want: Result<u64, CommitFault>,
 ) {
-    let told = match store.commit(who, txn_of(rt, alloc, changes), grants) {
+    let outcome = match store.commit(who, txn_of(rt, alloc, changes), grants) {
         Ok(number) => Ok(number),
         Err((fault, _)) => Err(fault),
     };
-    assert!(rt; told == want, "{changes}");
+    assert!(rt; outcome == want, "{changes}");
 }
 
 /// What the profile of a member is, with its stamp.

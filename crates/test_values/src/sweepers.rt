@@ -30,7 +30,7 @@ const DROP: SweepWanted = SweepWanted::Drop {
 };
 
 const RELEASED: SweepReply = SweepReply::Dropped {
-    told: Rel::Released { evicted: None },
+    answer: Rel::Released { evicted: None },
 };
 
 /// What is wanted in turn, and the reply, or none where the store tells that it ended session 7.
@@ -44,7 +44,7 @@ const ROUND: [(SweepWanted, Option<SweepReply>); 10] = [
     (DROP, Some(RELEASED)),
     (SweepWanted::Scan { shard: 1 }, Some(FOUND)),
     (END, None),
-    (DROP, Some(SweepReply::Dropped { told: Rel::Gone })),
+    (DROP, Some(SweepReply::Dropped { answer: Rel::Gone })),
     (
         SweepWanted::Scan { shard: 1 },
         Some(SweepReply::NoneFound { shard: 1 }),
@@ -71,7 +71,7 @@ fn closed(rt: &impl Abort, alloc: Global, sid: Sid) -> Closed {
 /// Tells the sweeper a reply that belongs to what it wants.
 fn tell(rt: &impl Abort, sweeper: &mut Sweeper, reply: SweepReply) {
     assert!(rt; sweeper.takes(&reply));
-    sweeper.told(reply);
+    sweeper.hear(reply);
 }
 
 #[test]

@@ -1,5 +1,5 @@
 //! The verbs of writers on one key that has a value.
-use crate::desks::{Desk, fault_told, got_told, rel_told, set_told};
+use crate::desks::{Desk, fault_text, got_text, rel_text, set_text};
 use crate::txns::value_of;
 use key_shard::{QAnswer, Rel, ShardFault};
 use lease_table::Mode;
@@ -32,8 +32,8 @@ const WRITER: Sid = Sid { number: 2 };
 /// A desk over a shard in which the key has this value, with the stamp 5.
 fn warm_desk(rt: &impl Abort, alloc: Global, key: QKey, text: &str) -> Desk {
     let mut desk = Desk::new(rt, alloc, 0, 1, 4, 1);
-    match got_told(alloc, desk.shard.get(key, READER, 0, 0)) {
-        Ok(told) => assert!(rt; told.as_str() == "lease 1"),
+    match got_text(alloc, desk.shard.get(key, READER, 0, 0)) {
+        Ok(answer) => assert!(rt; answer.as_str() == "lease 1"),
         Err(_) => panic!(rt; "no memory"),
     }
     stores(rt, alloc, &mut desk, key, text);
@@ -43,8 +43,8 @@ fn warm_desk(rt: &impl Abort, alloc: Global, key: QKey, text: &str) -> Desk {
 /// Sets the key under the token 1, with the stamp 5.
 fn stores(rt: &impl Abort, alloc: Global, desk: &mut Desk, key: QKey, text: &str) {
     let value = value_of(rt, alloc, text);
-    match set_told(alloc, desk.shard.set(key, 1, value, 5, 0)) {
-        Ok(told) => assert!(rt; told.as_str() == "stored"),
+    match set_text(alloc, desk.shard.set(key, 1, value, 5, 0)) {
+        Ok(answer) => assert!(rt; answer.as_str() == "stored"),
         Err(_) => panic!(rt; "no memory"),
     }
 }
@@ -59,7 +59,7 @@ fn asked(
 ) -> Result<String, AllocError> {
     match answer {
         Ok(answer) => desk.asked(rt, alloc, key, WRITER, answer),
-        Err(fault) => fault_told(alloc, fault),
+        Err(fault) => fault_text(alloc, fault),
     }
 }
 
@@ -74,7 +74,7 @@ fn delta_asked(
     match iq_delta(&mut desk.shard, key, WRITER, by, 0) {
         Ok(answer) => desk.asked(rt, alloc, key, WRITER, answer),
         Err(DeltaFault::NotCount) => format!(in alloc; "no count"),
-        Err(DeltaFault::Shard { fault }) => fault_told(alloc, fault),
+        Err(DeltaFault::Shard { fault }) => fault_text(alloc, fault),
     }
 }
 
@@ -120,7 +120,7 @@ fn shifts(rt: &impl Abort, desk: &mut Desk, stamp: u64) -> Rel {
 }
 
 /// Makes the call, and tells its answer.
-fn told(
+fn call_text(
     rt: &impl Abort,
     alloc: Global,
     desk: &mut Desk,
@@ -128,7 +128,7 @@ fn told(
     call: Call,
 ) -> Result<String, AllocError> {
     match call {
-        Call::Get(floor) => got_told(alloc, desk.shard.get(key, READER, floor, 0)),
+        Call::Get(floor) => got_text(alloc, desk.shard.get(key, READER, floor, 0)),
         Call::QaReg => {
             let answer = qa_reg(&mut desk.shard, key, WRITER, 0);
             asked(rt, alloc, desk, key, answer)
@@ -138,10 +138,10 @@ fn told(
             asked(rt, alloc, desk, key, answer)
         }
         Call::IqDelta(by) => delta_asked(rt, alloc, desk, key, by),
-        Call::Dar => rel_told(alloc, drops(rt, desk)),
-        Call::Abort => rel_told(alloc, aborts(rt, desk)),
-        Call::Sar(text, stamp) => rel_told(alloc, refreshes(rt, alloc, desk, text, stamp)),
-        Call::CommitDelta(stamp) => rel_told(alloc, shifts(rt, desk, stamp)),
+        Call::Dar => rel_text(alloc, drops(rt, desk)),
+        Call::Abort => rel_text(alloc, aborts(rt, desk)),
+        Call::Sar(text, stamp) => rel_text(alloc, refreshes(rt, alloc, desk, text, stamp)),
+        Call::CommitDelta(stamp) => rel_text(alloc, shifts(rt, desk, stamp)),
     }
 }
 
@@ -149,8 +149,11 @@ fn told(
 pub fn check(rt: &impl Abort, alloc: Global, key: QKey, text: &str, calls: &[(Call, &str)]) {
     let mut desk = warm_desk(rt, alloc, key, text);
     for (call, want) in calls.iter() {
-        match told(rt, alloc, &mut desk, key, *call) {
-            Ok(told) => assert!(rt; told.as_str() == *want, "{told} and not {want} at {text:?}"),
+        match call_text(rt, alloc, &mut desk, key, *call) {
+            Ok(answer) => assert!(rt;
+                answer.as_str() == *want,
+                "{answer} and not {want} at {text:?}"
+            ),
             Err(_) => panic!(rt; "no memory"),
         }
     }

@@ -9,12 +9,12 @@ use Rattle.run_audit.specs.Findings.{AreWhole}
 pub handed_next : (f : ShardView → List Step) (before all : List (List Step)) (shards rest : List ShardView) (shard : ShardView) (steps : List Step)
     → 0 < length shards → shard ≡ get_or shards 0 shard → rest ≡ remove shards 0 → steps ≡ f shard
     → before ++ map f shards ≡ all → (before ++ steps ∷ []) ++ map f rest ≡ all
-handed_next f before all [] rest shard steps some first left is told = absurd (omega (arith, some))
-handed_next f before all (one ∷ later) rest shard steps some first left is told =
+handed_next f before all [] rest shard steps some first left is same = absurd (omega (arith, some))
+handed_next f before all (one ∷ later) rest shard steps some first left is same =
     let steps_are : steps ≡ f one = is ∙ ap f first in
     let rest_are : map f rest ≡ map f later = ap (λ (l : List ShardView). map f l) left in
     let both : steps ∷ map f rest ≡ f one ∷ map f later = cc in
-    append_assoc before (steps ∷ []) (map f rest) ∙ ap (λ (l : List (List Step)). before ++ l) both ∙ told
+    append_assoc before (steps ∷ []) (map f rest) ∙ ap (λ (l : List (List Step)). before ++ l) both ∙ same
 
 -- it is whole where all are
 pub whole_first : (shards : List ShardView) (shard : ShardView) → 0 < length shards → shard ≡ get_or shards 0 shard → AreWhole shards → shard.terms.keep ≡ None

@@ -71,13 +71,13 @@ end_line_of core origin moves h =
 
 -- what holds where rows are told
 for_some : {P : Type 0} (rows : Option Tables) → (IsSome rows → P) → ForSome rows (λ _. P)
-for_some rows h = λ told is. h (subst (λ (r : Option Tables). IsSome r) (sym is) refl)
+for_some rows h = λ known is. h (subst (λ (r : Option Tables). IsSome r) (sym is) refl)
 
 -- what is kept of a run
 pub keeps : (core : CoreView) (origin : Origin) (moves : List Move) (rows : Option Tables)
-    → HasKept core origin moves → IsSound core origin moves → rows ≡ core.store.told
+    → HasKept core origin moves → IsSound core origin moves → rows ≡ core.store.known_rows
     → Keeps origin.shape origin.opening moves rows core.store.ledger.log (histories_in core)
-keeps core origin moves rows kept sound told =
+keeps core origin moves rows kept sound is_so =
     let past = past_of origin.shape moves in
     record {
       log_is = sound.log;
@@ -94,11 +94,11 @@ keeps core origin moves rows kept sound told =
           let back = sym (ap reverse same ∙ reverse-reverse (steps_of place past)) in
           subst (λ (log : List Commit). AllByRecursion (IsNumbered log) (reverse history)) (sym sound.log)
           (subst (AllByRecursion (IsNumbered (log_of past))) back (sound.lawful.numbered place));
-      rows_are = λ tables is. sound.rows tables (sym told ∙ is) ∙ ap (rows_after origin.opening) (sym sound.log);
-      truth = for_some rows (λ some. kept.store.truth (subst (λ (r : Option Tables). IsSome r) told some));
+      rows_are = λ tables is. sound.rows tables (sym is_so ∙ is) ∙ ap (rows_after origin.opening) (sym sound.log);
+      truth = for_some rows (λ some. kept.store.truth (subst (λ (r : Option Tables). IsSome r) is_so some));
       fresh = for_some rows (λ some.
           subst (λ (log : List Commit). Fresh origin.opening log (histories_in core)) (sym sound.log)
-          (subst (Fresh origin.opening (log_of past)) (sym sound.histories) (sound.fresh (subst (λ (r : Option Tables). IsSome r) told some))));
+          (subst (Fresh origin.opening (log_of past)) (sym sound.histories) (sound.fresh (subst (λ (r : Option Tables). IsSome r) is_so some))));
     }
 
 -- what holds where rows are told holds of rows that are told
@@ -107,19 +107,19 @@ from_some None h some = absurd cc
 from_some (Some tables) h some = h tables refl
 
 -- where a keeper tells its rows now only if it told some then, the opening rows are still those of the place
-pub opened_since : (held : Held) (shape : Shape) (opening : Tables) (told now : Option Tables) → (IsSome now → IsSome told)
-    → IsOpened held shape opening told → IsOpened held shape opening now
-opened_since held shape opening told now before h = record {
+pub opened_since : (held : Held) (shape : Shape) (opening : Tables) (known_rows now : Option Tables) → (IsSome now → IsSome known_rows)
+    → IsOpened held shape opening known_rows → IsOpened held shape opening now
+opened_since held shape opening known_rows now before h = record {
   fresh = h.fresh;
-  opened = for_some now (λ some. from_some told h.opened (before some));
+  opened = for_some now (λ some. from_some known_rows h.opened (before some));
 }
 
 -- so they are at the end of a run of turns
 pub opened_still : (held : Held) (core : CoreView) (origin : Origin) (moves : List Move) (rows : Option Tables)
-    → HasKept core origin moves → rows ≡ core.store.told
-    → IsOpened held origin.shape origin.opening origin.told → IsOpened held origin.shape origin.opening rows
-opened_still held core origin moves rows kept told =
-    opened_since held origin.shape origin.opening origin.told rows (λ some. kept.store.telling (subst (λ (r : Option Tables). IsSome r) told some))
+    → HasKept core origin moves → rows ≡ core.store.known_rows
+    → IsOpened held origin.shape origin.opening origin.known_rows → IsOpened held origin.shape origin.opening rows
+opened_still held core origin moves rows kept same =
+    opened_since held origin.shape origin.opening origin.known_rows rows (λ some. kept.store.telling (subst (λ (r : Option Tables). IsSome r) same some))
 
 -- two lists that do the same in reverse do the same
 pub unreversed : (moves others : List Move) → map cue_of (reverse moves) ≡ map cue_of (reverse others) → map cue_of moves ≡ map cue_of others

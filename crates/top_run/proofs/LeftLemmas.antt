@@ -30,12 +30,12 @@ module _ (opening : Tables) (before : ℕ → List Step) (none : (place : ℕ) �
   all_since shard left =
       left.goes_on ∙ ap (λ (l : List Step). left.more ++ l) (none shard.terms.no) ∙ append-nil left.more
 
-  fresh_history : (shard : ShardView) → IsLeft opening before store seen shard → IsSome store.told
+  fresh_history : (shard : ShardView) → IsLeft opening before store seen shard → IsSome store.known_rows
       → IsFreshPast opening store.ledger.log (reverse shard.history)
   fresh_history shard left some =
       subst (λ (past : List Step). IsFreshPast opening store.ledger.log past) (sym (all_since shard left)) (left.hits some)
 
-  pub left_fresh : (shards : List ShardView) → All (IsLeft opening before store seen) shards → IsSome store.told
+  pub left_fresh : (shards : List ShardView) → All (IsLeft opening before store seen) shards → IsSome store.known_rows
       → Fresh opening store.ledger.log (histories_in shards)
   left_fresh shards left some =
       All-map (λ (history : List Step). IsFreshPast opening store.ledger.log (reverse history)) (λ (shard : ShardView). shard.history) shards

@@ -16,7 +16,7 @@ use Rattle.top_run.specs.declared.plays.Tally.{Tally}
 use Rattle.top_run.specs.declared.runs.Status.{Status}
 use Rattle.top_run.specs.declared.runs.Status.TheVariants as status
 use Rattle.core_history.specs.Determined.{Cue}
-use Rattle.top_run.specs.Runs.{calls_of, past_of, faults_in, earlier, Held, Prints, IsRead, Tells, Left, IsOpened, AreTold, IsBegun, IsWhole}
+use Rattle.top_run.specs.Runs.{calls_of, past_of, faults_in, earlier, Held, Prints, IsRead, Tells, Left, IsOpened, AreCounted, IsBegun, IsWhole}
 use Rattle.top_run.specs.Runs.{IsCutOff, Keeps, Ended, is_read_fault, is_write_fault}
 use Rattle.top_run.specs.Plays.{CanPlay, IsPlayed, Stops, IsNoted, IsNew, IsFinished, IsStopped, status_of, at_write}
 use Rattle.top_run.proofs.PrintLemmas.{lines_none}
@@ -145,9 +145,9 @@ pub record HasBegunRun (held : Held) (core new : CoreView) (shape : Shape) (acts
   pub is_new : IsNew core shape
   pub sound : (origin : Origin) (moves : List Move) → HasKept new origin moves → IsSound new origin moves
   pub read : IsRead before.left after.left shape acts
-  pub opened : IsOpened held shape core.store.ledger.opening core.store.told
+  pub opened : IsOpened held shape core.store.ledger.opening core.store.known_rows
   pub start : before.keeps_failed ≡ core.store.faults
-  pub rows : after.rows ≡ new.store.told
+  pub rows : after.rows ≡ new.store.known_rows
   pub count : after.keeps_failed ≡ new.store.faults
 
 module _ (held : Held) (core new : CoreView) (shape : Shape)
@@ -156,9 +156,9 @@ module _ (held : Held) (core new : CoreView) (shape : Shape)
       → Keeps shape core.store.ledger.opening moves after.rows new.store.ledger.log (histories_in new)
   kept_of moves kept = keeps new (origin_of shape core) moves after.rows kept (h.sound (origin_of shape core) moves kept) h.rows
 
-  told_of : (moves : List Move) → HasKept new (origin_of shape core) moves → AreTold shape moves before.keeps_failed after.keeps_failed
+  told_of : (moves : List Move) → HasKept new (origin_of shape core) moves → AreCounted shape moves before.keeps_failed after.keeps_failed
   told_of moves kept =
-      let P : ℕ → ℕ → Type 0 = λ one two. AreTold shape moves one two in
+      let P : ℕ → ℕ → Type 0 = λ one two. AreCounted shape moves one two in
       subst (λ (n : ℕ). P n after.keeps_failed) (sym h.start) (subst (P core.store.faults) (sym h.count)
       (record {
         few = rose_since (faults_in shape moves) core.store.faults core.store.faults new.store.faults (omega arith) kept.store.faults;
@@ -175,7 +175,7 @@ module _ (held : Held) (core new : CoreView) (shape : Shape)
     opened = opened_still held new (origin_of shape core) moves after.rows kept h.rows h.opened;
     moves = moves;
     keeps = kept_of moves kept;
-    told = told_of moves kept;
+    failures_are = told_of moves kept;
   }
 
   whole : (tally : Tally) (turns : List ℕ) → (done : IsFinished new (origin_of shape core) acts before.taken after.taken tally)
@@ -254,7 +254,7 @@ pub done_quiet : (ended : Status) (held : Held) (before after : Tells) (left : L
     → ended ≡ status.Done → after.keeps_failed ≡ before.keeps_failed
 done_quiet ended held before after left written h is =
     let whole = subst (λ (e : Status). Ended e held before after left written) is h in
-    whole.told.none (none_told (past_of whole.shape whole.moves) whole.turns_are)
+    whole.failures_are.none (none_told (past_of whole.shape whole.moves) whole.turns_are)
 
 -- however a run ended, there is room for its histories
 pub room_at_end : (ended : Result (Unit {0}) Stop) (core : CoreView)

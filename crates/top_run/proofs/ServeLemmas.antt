@@ -14,7 +14,7 @@ use Rattle.top_run.specs.Works.{IsKept}
 use Rattle.top_run.specs.Serves.{serve_shape, serve_keep, ready_line, served_line, serve_text, IsServedText, IsAttended, HasServed, Course, IsServed, ServeEnded}
 use Rattle.door_workers.specs.Attending.{GivesBack, HaveEnds, IsEnough}
 use Rattle.run_words.specs.Words.{most_served}
-use Rattle.door_workers.specs.Told.{Told}
+use Rattle.door_workers.specs.DoorSeen.{DoorSeen}
 use Rattle.door_workers.specs.Ends.{AreHandedBack, AreServed}
 use Rattle.door_workers.proofs.EndLemmas.{none-handed, none-served}
 use Rattle.iq_outside.specs.Outside.{LineRecord}
@@ -58,7 +58,7 @@ ends_none : (most : Option ℕ) → HaveEnds most 0 []
 ends_none None = refl
 ends_none (Some most) = refl
 
-pub unattended : (spec : ServeSpec) (ended : Status) (taken_old taken_new : Option (List ℕ)) (before after : Told) (printed : List ℕ) (written : ℕ)
+pub unattended : (spec : ServeSpec) (ended : Status) (taken_old taken_new : Option (List ℕ)) (before after : DoorSeen) (printed : List ℕ) (written : ℕ)
     → after.lines ≡ before.lines → after.closed ≡ before.closed → (ended ≡ status.Done → ⊥)
     → (printed ≢ [] → after.bound ≡ Some spec.addr.items) → IsServedText ended 0 printed → Prints taken_old taken_new printed written
     → IsAttended spec ended taken_old taken_new before after [] written
@@ -76,13 +76,13 @@ unattended spec ended taken_old taken_new before after printed written same clos
 }
 
 -- where memory ran out before the door was bound
-unattended_short : (spec : ServeSpec) (taken : Option (List ℕ)) (door : Told) (ends : List LineEnd) → ends ≡ []
+unattended_short : (spec : ServeSpec) (taken : Option (List ℕ)) (door : DoorSeen) (ends : List LineEnd) → ends ≡ []
     → IsAttended spec status.Memory taken taken door door ends 0
 unattended_short spec taken door ends none =
     subst (λ (l : List LineEnd). IsAttended spec status.Memory taken taken door door l 0) (sym none)
     (unattended spec status.Memory taken taken door door [] 0 refl refl (λ is. cc) (λ some. absurd (some refl)) (inl (refl, refl)) (print_none taken))
 
-pub unserved_short : {W : Type 0} (sinks : Sinks W) (spec : ServeSpec) (sink : W) (door : Told) (ends : Vec LineEnd Global) (served : Served)
+pub unserved_short : {W : Type 0} (sinks : Sinks W) (spec : ServeSpec) (sink : W) (door : DoorSeen) (ends : Vec LineEnd Global) (served : Served)
     → served ≡ record { status = status.Memory; ends = ends; written = 0 } → ends.items ≡ [] → HasServed sinks spec served sink sink door door
 unserved_short sinks spec sink door ends served is none =
     subst (λ (s : Served). HasServed sinks spec s sink sink door door) (sym is) (record {

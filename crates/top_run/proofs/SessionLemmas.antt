@@ -38,10 +38,10 @@ use Rattle.session_client.specs.declared.replies.Fault.{Fault}
 use Rattle.session_client.specs.declared.replies.Fault.TheVariants as fault
 use Rattle.session_client.specs.declared.replies.Outcome.{Outcome}
 use Rattle.session_client.specs.declared.replies.Reply.{Reply}
-use Rattle.session_client.specs.declared.replies.Reply.TheVariants as reply
+use Rattle.session_client.specs.declared.replies.Reply.TheVariants as Reply
 use Rattle.session_client.specs.declared.replies.Wanted.TheVariants as wanted
 use Rattle.session_client.specs.Belongs.{Belongs}
-use Rattle.session_client.specs.Desks.{Call, Began, Asked, IsFirst}
+use Rattle.session_client.specs.Desks.{Exchange, Began, Asked, IsFirst}
 use Rattle.session_client.specs.Plans.{IsPlan, mode_on, writes}
 use Rattle.session_client.specs.Wants.{wants, done_by, is_nothing, has_all, quarantine_as, quarantine_or_then, after_fault, fault_outcome, writing_of}
 use Rattle.key_shard.proofs.LegalLemmas.{every-append}
@@ -118,22 +118,22 @@ asks_first other h = absurd h
 
 -- the first of what was heard, which is listed with the latest first
 abbrev FirstHeard : Reply → List Reply → Type 0
-FirstHeard told [] = ⊥
-FirstHeard told (last ∷ []) = last ≡ told
-FirstHeard told (last ∷ (next ∷ heard)) = FirstHeard told (next ∷ heard)
+FirstHeard reply [] = ⊥
+FirstHeard reply (last ∷ []) = last ≡ reply
+FirstHeard reply (last ∷ (next ∷ heard)) = FirstHeard reply (next ∷ heard)
 
 -- a session that has heard something began, and asked for the first thing that it wants
-record HasAsked (who : Sid) (plan : Plan) (heard : List Reply) (calls : List Call) : Type 0 where
-  told : Reply
-  rest : List Call
-  calls_are : calls ≡ rest ++ Asked who (wants plan false []) told ∷ Began (writes plan) who ∷ []
-  first : FirstHeard told heard
+record HasAsked (who : Sid) (plan : Plan) (heard : List Reply) (calls : List Exchange) : Type 0 where
+  reply : Reply
+  rest : List Exchange
+  calls_are : calls ≡ rest ++ Asked who (wants plan false []) reply ∷ Began (writes plan) who ∷ []
+  first : FirstHeard reply heard
   none_began : began_in rest ≡ []
 
-has_asked : (who : Sid) (plan : Plan) (short : Bool) (last : Reply) (heard : List Reply) (calls : List Call)
+has_asked : (who : Sid) (plan : Plan) (short : Bool) (last : Reply) (heard : List Reply) (calls : List Exchange)
     → Went who plan short (last ∷ heard) calls → HasAsked who plan (last ∷ heard) calls
 has_asked who plan short last [] calls h = record {
-  told = last;
+  reply = last;
   rest = [];
   calls_are = h.6 ∙ (λ i. Asked who (wants plan (h.2.0 i) []) last ∷ h.2.1 i);
   first = refl;
@@ -141,9 +141,9 @@ has_asked who plan short last [] calls h = record {
 }
 has_asked who plan short last (next ∷ heard) calls h =
     let e = has_asked who plan h.0 next heard h.1 h.2 in
-    let call : Call = Asked who (wants plan h.0 (next ∷ heard)) last in
+    let call : Exchange = Asked who (wants plan h.0 (next ∷ heard)) last in
     record {
-      told = e.told;
+      reply = e.reply;
       rest = call ∷ e.rest;
       calls_are = h.6 ∙ ap (λ l. call ∷ l) e.calls_are;
       first = e.first;
@@ -151,7 +151,7 @@ has_asked who plan short last (next ∷ heard) calls h =
     }
 
 -- one whose plan asks first has heard something once it wants nothing more
-has_heard : (who : Sid) (plan : Plan) (short : Bool) (heard : List Reply) (calls : List Call) → AsksFirst plan
+has_heard : (who : Sid) (plan : Plan) (short : Bool) (heard : List Reply) (calls : List Exchange) → AsksFirst plan
     → Went who plan short heard calls → wants plan short heard ≡ wanted.Nothing → HasAsked who plan heard calls
 has_heard who plan short [] calls asks h over =
     absurd (none_first (writes plan) (subst (IsFirst (writes plan)) (ap (λ s. wants plan s []) (sym h.0) ∙ over) (asks_first plan asks)))
@@ -167,12 +167,12 @@ failed_same : (a b : Outcome) → Some a ≡ Some b → b ≡ a
 failed_same a b e = sym (same_Some a b e)
 
 -- a reader that is told of a fault wants nothing more
-read_alone : (who : Sid) (key : QKey) (floor : ℕ) (cause : Fault) (short : Bool) (last : Reply) (heard : List Reply) (calls : List Call)
-    → Went who (Read key floor) short (last ∷ heard) calls → FirstHeard (reply.Fault cause) (last ∷ heard) → heard ≡ []
+read_alone : (who : Sid) (key : QKey) (floor : ℕ) (cause : Fault) (short : Bool) (last : Reply) (heard : List Reply) (calls : List Exchange)
+    → Went who (Read key floor) short (last ∷ heard) calls → FirstHeard (Reply.Fault cause) (last ∷ heard) → heard ≡ []
 read_alone who key floor cause short last [] calls h first = refl
 read_alone who key floor cause short last (next ∷ heard) calls h first =
     let alone = read_alone who key floor cause h.0 next heard h.1 h.2 first in
-    let is : next ≡ reply.Fault cause = subst (λ l. FirstHeard (reply.Fault cause) (next ∷ l)) alone first in
+    let is : next ≡ Reply.Fault cause = subst (λ l. FirstHeard (Reply.Fault cause) (next ∷ l)) alone first in
     absurd (h.3 ((λ i. wants (Read key floor) h.0 (is i ∷ alone i))))
 
 -- a writer that is told of one at once ends its session, and wants nothing more
@@ -181,41 +181,41 @@ none_had txn mode h =
     let long = ap length (first_key txn h).2 in
     ap (λ b. cond b false true) (lt-ltb 0 (length (footprint txn)) (omega (arith, long)))
 
-ended_only : (who : Sid) (told : Reply) → Belongs who wanted.End told → (was : Bool) × (told ≡ reply.End was)
-ended_only who (reply.End was) h = (was, refl)
+ended_only : (who : Sid) (reply : Reply) → Belongs who wanted.End reply → (was : Bool) × (reply ≡ Reply.End was)
+ended_only who (Reply.End was) h = (was, refl)
 ended_only who other h = absurd h
 
-write_alone : (who : Sid) (mode : Mode) (txn : List Change) (cause : Fault) (short : Bool) (last : Reply) (heard : List Reply) (calls : List Call)
-    → IsTxn txn → Went who (Write mode txn) short (last ∷ heard) calls → FirstHeard (reply.Fault cause) (last ∷ heard)
-    → (heard ≡ []) ⊎ ((was : Bool) × (last ∷ heard ≡ reply.End was ∷ reply.Fault cause ∷ []))
+write_alone : (who : Sid) (mode : Mode) (txn : List Change) (cause : Fault) (short : Bool) (last : Reply) (heard : List Reply) (calls : List Exchange)
+    → IsTxn txn → Went who (Write mode txn) short (last ∷ heard) calls → FirstHeard (Reply.Fault cause) (last ∷ heard)
+    → (heard ≡ []) ⊎ ((was : Bool) × (last ∷ heard ≡ Reply.End was ∷ Reply.Fault cause ∷ []))
 write_alone who mode txn cause short last [] calls is h first = inl refl
 write_alone who mode txn cause short last (next ∷ heard) calls is h first =
     ⊎_elim
     (λ alone.
-    let told : next ≡ reply.Fault cause = subst (λ l. FirstHeard (reply.Fault cause) (next ∷ l)) alone first in
+    let same : next ≡ Reply.Fault cause = subst (λ l. FirstHeard (Reply.Fault cause) (next ∷ l)) alone first in
     let asked : wants (Write mode txn) h.0 (next ∷ heard) ≡ wanted.End =
-    (λ i. wants (Write mode txn) h.0 (told i ∷ alone i)) ∙ ap (λ b. after_fault b (writing_of (Write mode txn)) []) (none_had txn mode is) in
+    (λ i. wants (Write mode txn) h.0 (same i ∷ alone i)) ∙ ap (λ b. after_fault b (writing_of (Write mode txn)) []) (none_had txn mode is) in
     let was = ended_only who last (subst (λ w. Belongs who w last) asked h.4) in
-    inr (was.0, λ i. was.1 i ∷ told i ∷ alone i))
+    inr (was.0, λ i. was.1 i ∷ same i ∷ alone i))
     (λ two. absurd (h.3 (ap (wants (Write mode txn) h.0) two.1)))
     (write_alone who mode txn cause h.0 next heard h.1 is h.2 first)
 
 -- so a session whose first request was told of want of memory failed for it
-memory_ended : (who : Sid) (plan : Plan) (short : Bool) (heard : List Reply) (calls : List Call) (over : Outcome) → AsksFirst plan
+memory_ended : (who : Sid) (plan : Plan) (short : Bool) (heard : List Reply) (calls : List Exchange) (over : Outcome) → AsksFirst plan
     → Went who plan short heard calls → wants plan short heard ≡ wanted.Nothing → done_by plan short heard ≡ Some over
-    → FirstHeard (reply.Fault fault.Memory) heard → over ≡ short_of_memory
+    → FirstHeard (Reply.Fault fault.Memory) heard → over ≡ short_of_memory
 memory_ended who plan short [] calls over asks h none done first = absurd first
 memory_ended who (Read key floor) short (last ∷ heard) calls over asks h none done first =
     let alone = read_alone who key floor fault.Memory short last heard calls h first in
-    let told : last ≡ reply.Fault fault.Memory = subst (λ l. FirstHeard (reply.Fault fault.Memory) (last ∷ l)) alone first in
-    failed_same short_of_memory over (sym (λ i. done_by (Read key floor) short (told i ∷ alone i)) ∙ done)
+    let same : last ≡ Reply.Fault fault.Memory = subst (λ l. FirstHeard (Reply.Fault fault.Memory) (last ∷ l)) alone first in
+    failed_same short_of_memory over (sym (λ i. done_by (Read key floor) short (same i ∷ alone i)) ∙ done)
 memory_ended who (Write mode txn) short (last ∷ heard) calls over asks h none done first =
     let writing = writing_of (Write mode txn) in
     ⊎_elim
     (λ alone.
-    let told : last ≡ reply.Fault fault.Memory = subst (λ l. FirstHeard (reply.Fault fault.Memory) (last ∷ l)) alone first in
+    let same : last ≡ Reply.Fault fault.Memory = subst (λ l. FirstHeard (Reply.Fault fault.Memory) (last ∷ l)) alone first in
     let ends : wants (Write mode txn) short (last ∷ heard) ≡ wanted.End =
-    (λ i. wants (Write mode txn) short (told i ∷ alone i)) ∙ ap (λ b. after_fault b writing []) (none_had txn mode asks) in
+    (λ i. wants (Write mode txn) short (same i ∷ alone i)) ∙ ap (λ b. after_fault b writing []) (none_had txn mode asks) in
     let no : wanted.End ≡ wanted.Nothing = sym ends ∙ none in
     absurd (false≢true (ap is_nothing no)))
     (λ two.
@@ -353,7 +353,7 @@ module _ (opening : Tables) (terms : ℕ → Terms) (before : ℕ → List Step)
       let in_seen : Among h.step (steps_of number seen.steps) =
       subst (λ n. Among h.step (steps_of n seen.steps)) (sym home.number)
       (among_goes_on h.step (steps_of place old.steps) (steps_of place seen.steps) (begins.steps place) h.among) in
-      let in_more = among_goes_on h.step (steps_of number seen.steps) (shorts_of (before number) home.kept.more) home.kept.told in_seen in
+      let in_more = among_goes_on h.step (steps_of number seen.steps) (shorts_of (before number) home.kept.more) home.kept.shorts_are in_seen in
       record {
         place = place;
         history = shard.history;
@@ -371,9 +371,9 @@ module _ (opening : Tables) (terms : ℕ → Terms) (before : ℕ → List Step)
       let number = shard.terms.no in
       let place = shard_of key (length shards) in
       let begins_all : IsStart (shorts_of (before place) h.more) (shorts_of (before place) home.kept.more) =
-      start_trans (shorts_of (before place) h.more) (steps_of place old.steps) (shorts_of (before place) home.kept.more) h.told
+      start_trans (shorts_of (before place) h.more) (steps_of place old.steps) (shorts_of (before place) home.kept.more) h.shorts_are
       (start_trans (steps_of place old.steps) (steps_of place seen.steps) (shorts_of (before place) home.kept.more) (begins.steps place)
-      (subst (λ n. IsStart (steps_of n seen.steps) (shorts_of (before n) home.kept.more)) home.number home.kept.told)) in
+      (subst (λ n. IsStart (steps_of n seen.steps) (shorts_of (before n) home.kept.more)) home.number home.kept.shorts_are)) in
       let few : count_by draws shard.history < 2 ^ 64 - 2 =
       subst (λ (history : List Step). count_by draws history < 2 ^ 64 - 2)
       (get_or_from_slice_get (histories_in shards) place shard.history shard.history in_place)
@@ -395,49 +395,49 @@ module _ (opening : Tables) (terms : ℕ → Terms) (before : ℕ → List Step)
   -- ---- the sessions of a worker
 
   -- what a first request leaves is a step that names the session, unless memory ran out
-  first_is_named : (who : Sid) (told : Reply) → AreUnspent (histories_in shards) → ShowsFirst terms before (length shards) who told seen
-      → (told ≡ reply.Fault fault.Memory → ⊥) → IsNamedIn (histories_in shards) who
-  first_is_named who (reply.Fault fault.Memory) unspent h had = absurd (had refl)
-  first_is_named who (reply.Fault fault.Keep) unspent h had = absurd h
-  first_is_named who (reply.Fault fault.Spent) unspent h had = absurd (not_spent unspent h.0 seen (beginning_same seen) h.1)
+  first_is_named : (who : Sid) (reply : Reply) → AreUnspent (histories_in shards) → ShowsFirst terms before (length shards) who reply seen
+      → (reply ≡ Reply.Fault fault.Memory → ⊥) → IsNamedIn (histories_in shards) who
+  first_is_named who (Reply.Fault fault.Memory) unspent h had = absurd (had refl)
+  first_is_named who (Reply.Fault fault.Keep) unspent h had = absurd h
+  first_is_named who (Reply.Fault fault.Spent) unspent h had = absurd (not_spent unspent h.0 seen (beginning_same seen) h.1)
   first_is_named who other unspent h had = named_in who seen (beginning_same seen) h
 
-  calls_behind : (worker : ℕ) (more calls : List Call) → AreCallsSeen terms before (length shards) worker (more ++ calls) seen
+  calls_behind : (worker : ℕ) (more calls : List Exchange) → AreCallsSeen terms before (length shards) worker (more ++ calls) seen
       → AreCallsSeen terms before (length shards) worker calls seen
   calls_behind worker [] calls h = h
   calls_behind worker (call ∷ more) calls h = calls_behind worker more calls h.1
 
-  began_both : (more calls : List Call) → began_in (more ++ calls) ≡ began_in more ++ began_in calls
+  began_both : (more calls : List Exchange) → began_in (more ++ calls) ≡ began_in more ++ began_in calls
   began_both [] calls = refl
   began_both (Began writes who ∷ more) calls = ap (λ l. who ∷ l) (began_both more calls)
-  began_both (Asked who request told ∷ more) calls = began_both more calls
+  began_both (Asked who request reply ∷ more) calls = began_both more calls
 
   -- a session of a row is named, and is the one that its calls began
-  row_is_named : (worker : ℕ) (plan : Plan) (calls behind : List Call) (row : RowView) → AsksFirst plan → AreUnspent (histories_in shards)
+  row_is_named : (worker : ℕ) (plan : Plan) (calls behind : List Exchange) (row : RowView) → AsksFirst plan → AreUnspent (histories_in shards)
       → IsRow plan calls row → AreCallsSeen terms before (length shards) worker (calls ++ behind) seen
       → IsNamedIn (histories_in shards) row.sid × (began_in calls ≡ row.sid ∷ [])
   row_is_named worker plan calls behind row asks unspent is h =
       let run = is.has_run in
       let asked = has_heard row.sid plan run.short run.heard calls asks run.went run.over in
-      let call : Call = Asked row.sid (wants plan false []) asked.told in
-      let begin : Call = Began (writes plan) row.sid in
+      let call : Exchange = Asked row.sid (wants plan false []) asked.reply in
+      let begin : Exchange = Began (writes plan) row.sid in
       let whole : calls ++ behind ≡ asked.rest ++ (call ∷ begin ∷ behind) =
       ap (λ l. l ++ behind) asked.calls_are ∙ append_assoc asked.rest (call ∷ begin ∷ []) behind in
       let here = calls_behind worker asked.rest (call ∷ begin ∷ behind)
       (subst (λ l. AreCallsSeen terms before (length shards) worker l seen) whole h) in
       let shows = here.0 (row.sid, writes plan) refl refl (asks_first plan asks) in (
-        first_is_named row.sid asked.told unspent shows
+        first_is_named row.sid asked.reply unspent shows
             (λ memory. is.had_memory (memory_ended row.sid plan run.short run.heard calls row.outcome asks run.went run.over run.ended
             (subst (λ t. FirstHeard t run.heard) memory asked.first))),
         ap began_in asked.calls_are ∙ began_both asked.rest (call ∷ begin ∷ []) ∙ ap (λ l. l ++ row.sid ∷ []) asked.none_began,
       )
 
   -- so are all sessions of a worker
-  record AreNamed (plans : List Plan) (calls : List Call) : Type 0 where
+  record AreNamed (plans : List Plan) (calls : List Exchange) : Type 0 where
     named : AllByRecursion (IsNamedIn (histories_in shards)) (began_in calls)
     as_many : length (began_in calls) ≡ length plans
 
-  rows_are_named : (worker : ℕ) (plans : List Plan) (calls behind : List Call) (rows : List RowView) → AllByRecursion AsksFirst plans
+  rows_are_named : (worker : ℕ) (plans : List Plan) (calls behind : List Exchange) (rows : List RowView) → AllByRecursion AsksFirst plans
       → AreUnspent (histories_in shards) → AreRows plans calls rows → AreCallsSeen terms before (length shards) worker (calls ++ behind) seen
       → AreNamed plans calls
   rows_are_named worker [] calls behind [] asks unspent h seen_calls =
@@ -470,13 +470,13 @@ module _ (opening : Tables) (terms : ℕ → Terms) (before : ℕ → List Step)
     above : least ≤ worker
     begin : Among (Begin who worker writes_it) seen.events
 
-  began_by : (worker : ℕ) (calls : List Call) → AreCallsSeen terms before (length shards) worker calls seen
+  began_by : (worker : ℕ) (calls : List Exchange) → AreCallsSeen terms before (length shards) worker calls seen
       → AllByRecursion (λ who. (writing : Bool) × Among (Begin who worker writing) seen.events) (began_in calls)
   began_by worker [] h = tt
   began_by worker (Began writing who ∷ calls) h = ((writing, h.0), began_by worker calls h.1)
-  began_by worker (Asked who request told ∷ calls) h = began_by worker calls h.1
+  began_by worker (Asked who request reply ∷ calls) h = began_by worker calls h.1
 
-  begun_from : (worker : ℕ) (calls : List Call) → AreCallsSeen terms before (length shards) worker calls seen
+  begun_from : (worker : ℕ) (calls : List Exchange) → AreCallsSeen terms before (length shards) worker calls seen
       → AllByRecursion (IsBegunFrom worker) (began_in calls)
   begun_from worker calls h =
       all_mono (λ who one. record { worker = worker; writes_it = one.0; above = omega arith; begin = one.1 }) (began_in calls) (began_by worker calls h)
@@ -563,8 +563,8 @@ module _ (opening : Tables) (terms : ℕ → Terms) (before : ℕ → List Step)
   workers_are_named order unspent least (list ∷ plans) (old ∷ olds) (now ∷ news) (rows ∷ more) asks work new recorded =
       let one = work.0 in
       let rest = workers_are_named order unspent (suc least) plans olds news more asks.1 work.1 new.2 recorded.1 in
-      let calls : now.calls ≡ Some (one.calls ++ []) = ap (λ (d : DeskView). d.calls) one.told ∙ ap (with_calls one.calls) new.0 in
-      let worker : now.worker ≡ Some least = ap (λ (d : DeskView). d.worker) one.told ∙ new.1 in
+      let calls : now.calls ≡ Some (one.calls ++ []) = ap (λ (d : DeskView). d.calls) one.works ∙ ap (with_calls one.calls) new.0 in
+      let worker : now.worker ≡ Some least = ap (λ (d : DeskView). d.worker) one.works ∙ new.1 in
       let record_seen = recorded.0 (one.calls ++ []) calls least worker in
       let each = record_seen.each in
       let here = rows_are_named least list one.calls [] rows asks.0 unspent one.rows_of each in
@@ -613,28 +613,28 @@ module _ (opening : Tables) (terms : ℕ → Terms) (before : ℕ → List Step)
       )
 
 -- new desks tell that they are
-pub new_views : (record_of : BoundDeskView → Option (List Call)) (tends worker : BoundDeskView → Option ℕ) (desks : List BoundDeskView) (place : ℕ)
+pub new_views : (record_of : BoundDeskView → Option (List Exchange)) (tends worker : BoundDeskView → Option ℕ) (desks : List BoundDeskView) (place : ℕ)
     → ((desk : BoundDeskView) → record_of desk ≡ Some desk.calls) → ((desk : BoundDeskView) → worker desk ≡ Some desk.worker)
     → AreNewDesks place desks → AreNewViews place (map (desk_view record_of tends worker) desks)
 new_views record_of tends worker [] place calls at new = tt
 new_views record_of tends worker (desk ∷ desks) place calls at new = (
-  calls desk ∙ ap (λ (l : List Call). Some l) new.1,
+  calls desk ∙ ap (λ (l : List Exchange). Some l) new.1,
   at desk ∙ ap (λ (n : ℕ). Some n) new.0,
   new_views record_of tends worker desks (suc place) calls at new.2,
 )
 
 -- what is seen of the calls of all desks is told by them
-pub recorded_views : (record_of : BoundDeskView → Option (List Call)) (tends worker : BoundDeskView → Option ℕ)
+pub recorded_views : (record_of : BoundDeskView → Option (List Exchange)) (tends worker : BoundDeskView → Option ℕ)
     (terms : ℕ → Terms) (before : ℕ → List Step) (shards : ℕ) (seen : Seen) (desks : List BoundDeskView)
     → ((desk : BoundDeskView) → record_of desk ≡ Some desk.calls) → ((desk : BoundDeskView) → worker desk ≡ Some desk.worker)
     → All (λ (desk : BoundDeskView). IsRecordSeen terms before shards desk.worker desk.calls seen) desks
     → AreRecorded terms before shards seen (map (desk_view record_of tends worker) desks)
 recorded_views record_of tends worker terms before shards seen [] calls at h = tt
 recorded_views record_of tends worker terms before shards seen (desk ∷ desks) calls at h = (
-  λ told is number there.
-      let same : desk.calls ≡ told = same_Some desk.calls told (sym (calls desk) ∙ is) in
+  λ listed is number there.
+      let same : desk.calls ≡ listed = same_Some desk.calls listed (sym (calls desk) ∙ is) in
       let same_number : desk.worker ≡ number = same_Some desk.worker number (sym (at desk) ∙ there) in
-      subst (λ n. IsRecordSeen terms before shards n told seen) same_number
+      subst (λ n. IsRecordSeen terms before shards n listed seen) same_number
       (subst (λ l. IsRecordSeen terms before shards desk.worker l seen) same
       (All-head (λ (d : BoundDeskView). IsRecordSeen terms before shards d.worker d.calls seen) desk desks h)),
   recorded_views record_of tends worker terms before shards seen desks calls at
@@ -660,7 +660,7 @@ others_alone news olds many same is =
     ∙ ap (take many) (append-nil news) ∙ take_all many news (omega (arith, same, is))
 
 -- desks that were new have run the plans, and one pass has seen what each left
-pub worked_over : (record_of : BoundDeskView → Option (List Call)) (tends worker : BoundDeskView → Option ℕ) (terms : ℕ → Terms) (before : ℕ → List Step) (shards : ℕ)
+pub worked_over : (record_of : BoundDeskView → Option (List Exchange)) (tends worker : BoundDeskView → Option ℕ) (terms : ℕ → Terms) (before : ℕ → List Step) (shards : ℕ)
     (plans : List (List Plan)) (lent olds news : List BoundDeskView) (many : ℕ) (rows : List (List RowView)) (pass : PassView) (passes some : List PassView)
     → ((desk : BoundDeskView) → record_of desk ≡ Some desk.calls) → ((desk : BoundDeskView) → worker desk ≡ Some desk.worker)
     → lent ≡ olds → AreNewDesks 0 olds → length olds ≡ many

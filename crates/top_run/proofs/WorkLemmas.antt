@@ -28,7 +28,7 @@ use Rattle.top_run.specs.declared.plays.Stop.{Stop}
 use Rattle.top_run.specs.declared.plays.Stop.TheVariants as stop
 use Rattle.top_run.specs.declared.runs.Status.TheVariants as status
 use Rattle.top_run.specs.Runs.{Held, Tells, Left, IsOpened, kept_in, is_read_fault, is_write_fault}
-use Rattle.top_run.specs.Works.{work_shape, hub_terms, has_spent, first_spent, work_status, end_status, at_write_told, IsTold, IsHalted, IsLeft, IsKept, IsSummed, WorkEnded}
+use Rattle.top_run.specs.Works.{work_shape, hub_terms, has_spent, first_spent, work_status, end_status, at_write_failed, IsSummarized, IsHalted, IsLeft, IsKept, IsSummed, WorkEnded}
 
 -- ---- what the shards of a hub are
 
@@ -140,18 +140,18 @@ abbrev pub left_of : StoreView → List (List Step) → Left
 left_of store histories = record { opening = Some store.ledger.opening; log = store.ledger.log; histories = histories }
 
 pub is_kept : (shape : Shape) (keep : Option ℕ) (held : Held) (before after : Tells) (store : StoreView) (histories : List (List Step)) (start : Option ℕ)
-    → after.rows ≡ store.told → after.keeps_failed ≡ store.faults → start ≡ Some before.keeps_failed
+    → after.rows ≡ store.known_rows → after.keeps_failed ≡ store.faults → start ≡ Some before.keeps_failed
     → length store.ledger.log ≤ store.ledger.cap → store.ledger.cap ≡ log_cap
-    → ForSome store.told (λ told. told ≡ rows_of store.ledger) → FailedSince start store.ledger.failed store.faults
+    → ForSome store.known_rows (λ known. known ≡ rows_of store.ledger) → FailedSince start store.ledger.failed store.faults
     → ((place : ℕ) (steps : List Step) → slice_get histories place ≡ Some steps → IsLeft shape keep place steps) → length histories ≡ shape.shards
     → IsOpened held shape store.ledger.opening after.rows
-    → (keep ≡ None → IsSome store.told → Fresh store.ledger.opening store.ledger.log histories) → (keep ≡ None → Covered store.ledger.log histories)
+    → (keep ≡ None → IsSome store.known_rows → Fresh store.ledger.opening store.ledger.log histories) → (keep ≡ None → Covered store.ledger.log histories)
     → IsKept shape keep held before after (left_of store histories) store.ledger.opening store.ledger.failed
-is_kept shape keep held before after store histories start rows count starts short cap told since legal many opened fresh covered = record {
+is_kept shape keep held before after store histories start rows count starts short cap same since legal many opened fresh covered = record {
   opening_is = refl;
   opened = opened;
   short = subst (λ (n : ℕ). length store.ledger.log ≤ n) cap short;
-  rows_are = subst (λ (r : Option Tables). ForSome r (λ t. t ≡ rows_of store.ledger)) (sym rows) told;
+  rows_are = subst (λ (r : Option Tables). ForSome r (λ t. t ≡ rows_of store.ledger)) (sym rows) same;
   as_many = many;
   legal = legal;
   since = subst (λ (n : ℕ). HaveFailed before.keeps_failed store.ledger.failed n) (sym count) (since before.keeps_failed starts);
@@ -170,34 +170,34 @@ module _ (spec : WorkSpec) (held : Held) (before after : Tells)
   unfailed is = same_of_none before.keeps_failed failed after.keeps_failed is kept.since
 
   summed_as : (b : Bool) (spent : Option ℕ) (found : Finding) → nat_lt 0 failed ≡ b → first_spent left.histories ≡ spent
-      → IsTold spec opening left.log left.histories before.taken after.taken written found
+      → IsSummarized spec opening left.log left.histories before.taken after.taken written found
       → (work_status b spent ≢ status.KeepFault → after.keeps_failed ≡ before.keeps_failed)
       → IsSummed spec held before after left written (work_status b spent)
-  summed_as b spent found is first told still = record {
+  summed_as b spent found is first printed still = record {
     opening = opening;
     failed = failed;
     kept = kept;
     found = found;
-    told = told;
+    summary_is = printed;
     ends = same_status b spent is first;
     unfailed = still;
   }
 
   summed : (b : Bool) (spent : Option ℕ) (found : Finding) → nat_lt 0 failed ≡ b → first_spent left.histories ≡ spent
-      → IsTold spec opening left.log left.histories before.taken after.taken written found
+      → IsSummarized spec opening left.log left.histories before.taken after.taken written found
       → WorkEnded (work_status b spent) spec held before after left written
-  summed true spent found is first told = (
+  summed true spent found is first printed = (
     rose_of_failed before.keeps_failed failed after.keeps_failed is kept.since,
-    inr (summed_as true spent found is first told (λ other. absurd (other refl))),
+    inr (summed_as true spent found is first printed (λ other. absurd (other refl))),
   )
-  summed false (Some shard) found is first told = summed_as false (Some shard) found is first told (λ _. unfailed is)
-  summed false None found is first told = summed_as false None found is first told (λ _. unfailed is)
+  summed false (Some shard) found is first printed = summed_as false (Some shard) found is first printed (λ _. unfailed is)
+  summed false None found is first printed = summed_as false None found is first printed (λ _. unfailed is)
 
   -- the end of a run that began
-  pub work_ended : (told : Result Finding Stop)
-      → IfOk told (IsTold spec opening left.log left.histories before.taken after.taken written)
-      → IfErr told (IsHalted spec opening left.log left.histories before.taken after.taken written)
-      → WorkEnded (end_status (nat_lt 0 failed) (first_spent left.histories) told) spec held before after left written
+  pub work_ended : (printed : Result Finding Stop)
+      → IfOk printed (IsSummarized spec opening left.log left.histories before.taken after.taken written)
+      → IfErr printed (IsHalted spec opening left.log left.histories before.taken after.taken written)
+      → WorkEnded (end_status (nat_lt 0 failed) (first_spent left.histories) printed) spec held before after left written
   work_ended (Ok found) all some = summed (nat_lt 0 failed) (first_spent left.histories) found refl refl all
   work_ended (Err stop.WriteFault) all some = record { opening = opening; failed = failed; kept = kept; cut = some }
   work_ended (Err stop.Memory) all some = inr (record { opening = opening; failed = failed; kept = kept; prints = some })
@@ -208,7 +208,7 @@ no_usage_found true spent is = cc
 no_usage_found false (Some shard) is = cc
 no_usage_found false None is = cc
 
-pub no_usage : (b : Bool) (spent : Option ℕ) (told : Result Finding Stop) → end_status b spent told ≡ status.Usage → ⊥
+pub no_usage : (b : Bool) (spent : Option ℕ) (printed : Result Finding Stop) → end_status b spent printed ≡ status.Usage → ⊥
 no_usage b spent (Ok found) is = no_usage_found b spent is
 no_usage b spent (Err stop.WriteFault) is = cc
 no_usage b spent (Err stop.Memory) is = cc
@@ -218,7 +218,7 @@ no_read_found true spent = refl
 no_read_found false (Some shard) = refl
 no_read_found false None = refl
 
-pub no_read : (b : Bool) (spent : Option ℕ) (told : Result Finding Stop) → is_read_fault (end_status b spent told) ≡ false
+pub no_read : (b : Bool) (spent : Option ℕ) (printed : Result Finding Stop) → is_read_fault (end_status b spent printed) ≡ false
 no_read b spent (Ok found) = no_read_found b spent
 no_read b spent (Err stop.WriteFault) = refl
 no_read b spent (Err stop.Memory) = refl
@@ -228,7 +228,7 @@ no_write_found true spent = refl
 no_write_found false (Some shard) = refl
 no_write_found false None = refl
 
-pub at_write_end : (b : Bool) (spent : Option ℕ) (told : Result Finding Stop) → is_write_fault (end_status b spent told) ≡ at_write_told told
+pub at_write_end : (b : Bool) (spent : Option ℕ) (printed : Result Finding Stop) → is_write_fault (end_status b spent printed) ≡ at_write_failed printed
 at_write_end b spent (Ok found) = no_write_found b spent
 at_write_end b spent (Err stop.WriteFault) = refl
 at_write_end b spent (Err stop.Memory) = refl

@@ -28,7 +28,7 @@ IsTextPart status.WriteFault text printed = (more : List ℕ) × (printed ++ mor
 IsTextPart other text printed = ⊥
 
 -- A text was asked for, and nothing was run.
-pub record IsTextTold (text : List ℕ) (ended : Status) (before after : Tells) (left : Left) (written : ℕ) : Type 0 where
+pub record IsTextPrinted (text : List ℕ) (ended : Status) (before after : Tells) (left : Left) (written : ℕ) : Type 0 where
   pub printed : List ℕ
   pub is_part : IsTextPart ended text printed
   pub prints : Prints before.taken after.taken printed written
@@ -57,10 +57,10 @@ EndedAs (Ok (words.Work place spec)) ended courses =
     × IsUnserved course
 EndedAs (Ok (words.Serve place spec)) ended courses =
     let course = courses place in IsUnread course.before course.after × ServeEnded ended spec course
-EndedAs (Ok (words.Told text)) ended courses =
+EndedAs (Ok (words.Text text)) ended courses =
     (place : Place)
     → IsUnread (courses place).before (courses place).after
-    × IsTextTold text.items ended (courses place).before (courses place).after (courses place).left (courses place).written
+    × IsTextPrinted text.items ended (courses place).before (courses place).after (courses place).left (courses place).written
     × IsUnserved (courses place)
 EndedAs (Err fault.Usage) ended courses = (ended ≡ status.Usage) × ((place : Place) → IsRefused (courses place))
 EndedAs (Err fault.Memory) ended courses = (ended ≡ status.Memory) × ((place : Place) → IsRefused (courses place))

@@ -171,7 +171,7 @@ FewFaults faults failed_old failed_new =
     (failed_old + faults ≤ failed_new) ⊎ ((failed_old ≤ 2 ^ 64 - 1) × (2 ^ 64 - 1 ≤ failed_new))
 
 -- The keeper's count of faults rose with the turns that were answered FAULT, and is as before where none was.
-pub record AreTold (shape : Shape) (moves : List Move) (failed_old failed_new : ℕ) : Type 0 where
+pub record AreCounted (shape : Shape) (moves : List Move) (failed_old failed_new : ℕ) : Type 0 where
   pub few : FewFaults (faults_in shape moves) failed_old failed_new
   pub none : faults_in shape moves ≡ 0 → failed_new ≡ failed_old
 
@@ -192,7 +192,7 @@ pub record Keeps (shape : Shape) (opening : Tables) (moves : List Move) (rows : 
   pub covered : Covered log histories
   pub quarantined : AreQuarantined shape (past_of shape moves)
   pub numbered : (place : ℕ) (history : List Step) → slice_get histories place ≡ Some history → AllByRecursion (IsNumbered log) (reverse history)
-  pub rows_are : ForSome rows (λ told. told ≡ rows_after opening log)
+  pub rows_are : ForSome rows (λ known. known ≡ rows_after opening log)
   pub truth : ForSome rows (λ _. IsTruePast opening (past_of shape moves))
   pub fresh : ForSome rows (λ _. AreFresh opening log histories)
 
@@ -207,7 +207,7 @@ pub record IsBegun (held : Held) (before after : Tells) (left : Left) : Type 0 w
   pub opened : IsOpened held shape opening after.rows
   pub moves : List Move
   pub keeps : Keeps shape opening moves after.rows left.log left.histories
-  pub told : AreTold shape moves before.keeps_failed after.keeps_failed
+  pub failures_are : AreCounted shape moves before.keeps_failed after.keeps_failed
 
 -- A script was read, and what it says was done to its end, with these turns answered FAULT: all is printed.
 -- Where the keeper tells its rows, it is the one text of the script over the opening rows and these turns.

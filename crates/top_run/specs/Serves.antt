@@ -14,7 +14,7 @@ use Rattle.run_words.specs.declared.words.ServeSpec.{ServeSpec}
 use Rattle.top_run.specs.Runs.{Held, Tells, Left, left_at, Prints, CountsWhere, is_write_fault, is_door_fault, IsUnasked, IsNotStarted}
 use Rattle.run_words.specs.Words.{most_served}
 use Rattle.door_workers.specs.Attending.{GivesBack, HaveEnds, IsEnough, count_up_by}
-use Rattle.door_workers.specs.Told.{Told}
+use Rattle.door_workers.specs.DoorSeen.{DoorSeen}
 use Rattle.top_run.specs.Works.{IsKept}
 
 -- The shape of a server's hub: so many members and shards, room for 4,096 entries in each, and leases that live 10 seconds.
@@ -59,7 +59,7 @@ line_count lines = min lines (2 ^ 64 - 1)
 -- asked for, or the door said that no more come, as it did where no number was asked for. Where anything was written the door is bound
 -- to the address that was asked for.
 pub record IsAttended (spec : ServeSpec) (ended : Status) (taken_old taken_new : Option (List ℕ))
-    (before after : Told) (ends : List LineEnd) (written : ℕ) : Type 0 where
+    (before after : DoorSeen) (ends : List LineEnd) (written : ℕ) : Type 0 where
   pub lines : ℕ
   pub few : IfSome (most_served spec.conns) (λ most. lines ≤ most)
   pub have_ends : HaveEnds (most_served spec.conns) lines ends
@@ -73,10 +73,10 @@ pub record IsAttended (spec : ServeSpec) (ended : Status) (taken_old taken_new :
 
 -- The lines of a server were served so, from a door that told this before and this after, and with this sink handed in and back:
 -- what is so of sink, door and lines, and each count of faults rose exactly where that failed.
-pub record HasServed {W : Type 0} (sinks : Sinks W) (spec : ServeSpec) (served : Served) (old new : W) (before after : Told) : Type 0 where
+pub record HasServed {W : Type 0} (sinks : Sinks W) (spec : ServeSpec) (served : Served) (old new : W) (before after : DoorSeen) : Type 0 where
   pub attended : IsAttended spec served.status (sinks.taken old) (sinks.taken new) before after served.ends.items served.written
   pub writes : CountsWhere sinks.faults (is_write_fault served.status) old new
-  pub doors : CountsWhere (λ (door : Told). door.faults) (is_door_fault served.status) before after
+  pub doors : CountsWhere (λ (door : DoorSeen). door.faults) (is_door_fault served.status) before after
 
 -- How a run went: where it was made, what was known before and after it, of its door too, what it leaves, how many bytes were
 -- written, and how each line ended.
@@ -84,14 +84,14 @@ pub record Course : Type 0 where
   pub held : Held
   pub before : Tells
   pub after : Tells
-  pub door_before : Told
-  pub door_after : Told
+  pub door_before : DoorSeen
+  pub door_after : DoorSeen
   pub left : Left
   pub ends : List LineEnd
   pub written : ℕ
 
 -- The course of a run that ended so, of which these are known.
-abbrev pub course_of : {K : Type 0} → Held → Tells → Tells → Told → Told → RunEnd K → Course
+abbrev pub course_of : {K : Type 0} → Held → Tells → Tells → DoorSeen → DoorSeen → RunEnd K → Course
 course_of held before after door_before door_after end = record {
   held = held;
   before = before;

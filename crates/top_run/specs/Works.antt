@@ -108,18 +108,18 @@ end_status failed spent (Err stop.WriteFault) = status.WriteFault
 end_status failed spent (Err stop.Memory) = status.Memory
 
 -- Whether a write ended it.
-abbrev pub at_write_told : Result Finding Stop → Bool
-at_write_told (Ok found) = false
-at_write_told (Err stop.WriteFault) = true
-at_write_told (Err stop.Memory) = false
+abbrev pub at_write_failed : Result Finding Stop → Bool
+at_write_failed (Ok found) = false
+at_write_failed (Err stop.WriteFault) = true
+at_write_failed (Err stop.Memory) = false
 
 -- The name of a hub names what it is made with: a shard's terms, by which it is whole or rolls, and the store as it was handed in.
 pub record IsNameOf (shape : Shape) (keep : Option ℕ) (store : StoreView) (terms : ℕ → Terms)
-    (opening : Tables) (cap : ℕ) (told : Option Tables) (start : Option ℕ) : Type 0 where
+    (opening : Tables) (cap : ℕ) (known_rows : Option Tables) (start : Option ℕ) : Type 0 where
   pub terms_are : (place : ℕ) → terms place ≡ hub_terms shape keep place
   pub opening_is : store.ledger.opening ≡ opening
   pub cap_is : cap ≡ log_cap
-  pub told_is : told ≡ store.told
+  pub told_is : known_rows ≡ store.known_rows
   pub start_is : start ≡ Some store.faults
 
 -- Whether a step names this session: one that follows a set names none.
@@ -182,7 +182,7 @@ pub record IsSummary (spec : WorkSpec) (opening : Tables) (log : List Commit) (h
   pub text_is : text ≡ summary spec log histories (bypasses_in transcripts) (rejected_in transcripts) found
 
 -- The summary was written.
-pub record IsTold (spec : WorkSpec) (opening : Tables) (log : List Commit)
+pub record IsSummarized (spec : WorkSpec) (opening : Tables) (log : List Commit)
     (histories : List (List Step)) (taken_old taken_new : Option (List ℕ)) (written : ℕ) (found : Finding) : Type 0 where
   pub text : List ℕ
   pub is_summary : IsSummary spec opening log histories found text
@@ -223,7 +223,7 @@ pub record IsKept (shape : Shape) (keep : Option ℕ) (held : Held) (before afte
   pub opening_is : left.opening ≡ Some opening
   pub opened : IsOpened held shape opening after.rows
   pub short : length left.log ≤ log_cap
-  pub rows_are : ForSome after.rows (λ told. told ≡ rows_after opening left.log)
+  pub rows_are : ForSome after.rows (λ known. known ≡ rows_after opening left.log)
   pub as_many : length left.histories ≡ shape.shards
   pub legal : (place : ℕ) (history : List Step) → slice_get left.histories place ≡ Some history → IsLeft shape keep place history
   pub since : HaveFailed before.keeps_failed failed after.keeps_failed
@@ -237,7 +237,7 @@ pub record IsSummed (spec : WorkSpec) (held : Held) (before after : Tells) (left
   pub failed : ℕ
   pub kept : IsKept (work_shape spec) None held before after left opening failed
   pub found : Finding
-  pub told : IsTold spec opening left.log left.histories before.taken after.taken written found
+  pub summary_is : IsSummarized spec opening left.log left.histories before.taken after.taken written found
   pub ends : ended ≡ work_status (nat_lt 0 failed) (first_spent left.histories)
   pub unfailed : ended ≢ status.KeepFault → after.keeps_failed ≡ before.keeps_failed
 

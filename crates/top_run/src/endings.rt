@@ -47,7 +47,7 @@ pub(crate) fn ended_run<K: Keeper>(
     requires whole { AreWhole core.shards }
     ensures status { result.status ≡ status_of ended tally.faulted }
     ensures started { K.is_started result.keeper }
-    ensures rows { K.rows result.keeper ≡ core.store.told }
+    ensures rows { K.rows result.keeper ≡ core.store.known_rows }
     ensures faults { K.faults result.keeper ≡ core.store.faults }
     ensures opening { result.opening ≡ Some core.store.ledger.opening }
     ensures log { result.log.items ≡ core.store.ledger.log }

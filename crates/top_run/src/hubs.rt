@@ -126,7 +126,7 @@ pub(crate) fn ended_hub<K: Keeper, N: Start>(
     requires room { length shards.items ≤ vec_capacity histories }
     ensures status { result.status ≡ status }
     ensures started { K.is_started result.keeper }
-    ensures rows { K.rows result.keeper ≡ store.told }
+    ensures rows { K.rows result.keeper ≡ store.known_rows }
     ensures faults { K.faults result.keeper ≡ store.faults }
     ensures opening { result.opening ≡ Some store.ledger.opening }
     ensures log { result.log.items ≡ store.ledger.log }
@@ -135,7 +135,7 @@ pub(crate) fn ended_hub<K: Keeper, N: Start>(
     ensures whole { AreWhole shards.items → histories_at result ≡ histories_in shards.items }
     ensures ends { result.ends ≡ ends }
     ensures written { result.written ≡ written }
-    ensures told { ForSome store.told (λ told. told ≡ rows_of store.ledger) }
+    ensures told { ForSome store.known_rows (λ known. known ≡ rows_of store.ledger) }
     ensures since { FailedSince N.count store.ledger.failed store.faults }
 {
     // A store tells of its log that it is no longer than it may be.

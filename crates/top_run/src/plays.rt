@@ -164,8 +164,8 @@ fn play_turn<W: Sink, K: Keeper>(
     ensures counts { RoseWhere W.faults (at_write result) sink.old sink.new }
     ensures never_falls { W.faults sink.old ≤ W.faults sink.new }
 {
-    let told = core.step(turn)?;
-    tally.note(told.fault());
-    print(sink, &mut tally.written, told.line())?;
+    let turn_line = core.step(turn)?;
+    tally.note(turn_line.fault());
+    print(sink, &mut tally.written, turn_line.line())?;
     Ok(())
 }

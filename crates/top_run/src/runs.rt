@@ -10,7 +10,7 @@ ghost use Rattle.top_run.specs.declared.runs.Status.{Status};
 ghost use Rattle.top_run.specs.Runs.{Ended, Held, Input, told_by, moment, seen, held_at, left_at, IsRead, IsOpened, RoseWhere, CountsWhere, is_read_fault, is_write_fault, is_door_fault};
 ghost use Rattle.top_run.specs.Commands.{AreLines, AreNoCommand, CommandEnded};
 ghost use Rattle.top_run.specs.Serves.{course_of};
-ghost use Rattle.door_workers.specs.Attending.{told};
+ghost use Rattle.door_workers.specs.Attending.{seen_at};
 ghost use Rattle.top_run.specs.Plays.{IsNew, IsFinished, IsStopped, IsUnread, at_write};
 
 use crate::endings::{ended_run, not_started, start_status};
@@ -164,7 +164,7 @@ pub fn run<
 ) -> RunEnd<K>
     ensures usage { result.status ≡ Status.Usage →
         AreNoCommand (map (λ word. word.items) words.now) }
-    ensures ended { let tells = told D.bound D.lines D.faults D.ended D.closed in
+    ensures ended { let tells = seen_at D.bound D.lines D.faults D.ended D.closed in
         let before = seen (told_by S.Source source.old) W.Sink K.Keeper sink.old keeper in
         let after = seen (told_by S.Source source.new) W.Sink K.Keeper sink.new result.keeper in
         CommandEnded (map (λ word. word.items) words.now) result.status (λ place.
@@ -195,7 +195,7 @@ pub fn run<
         Ok(Words::Serve { place, spec }) => {
             serve(rt, alloc, &place, &spec, sink, keeper, door, clock, gate)
         }
-        Ok(Words::Told { text }) => tell(alloc, text.as_slice(), sink, keeper),
+        Ok(Words::Text { text }) => tell(alloc, text.as_slice(), sink, keeper),
         Err(WordsFault::Usage) => not_started(alloc, Status::Usage, keeper),
         Err(WordsFault::Memory) => not_started(alloc, Status::Memory, keeper),
     }
@@ -272,7 +272,7 @@ fn play_core<W: Sink, K: Keeper>(
     requires room { script.shape.shards ≤ vec_capacity histories }
     ensures ended { (unread read : Input) (rows : Option Tables) (held : Held) →
         IsRead unread.left read.left script.shape script.acts →
-        IsOpened held script.shape core.store.ledger.opening core.store.told →
+        IsOpened held script.shape core.store.ledger.opening core.store.known_rows →
         let before = moment unread (W.taken sink.old) (W.faults sink.old) rows core.store.faults in
         let after = seen read W.Sink K.Keeper sink.new result.keeper in
         Ended result.status held before after (left_at result) result.written }

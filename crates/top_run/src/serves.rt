@@ -11,7 +11,7 @@ ghost use Rattle.top_run.specs.Ready.{IsServeReady, MakeHub, NamesParts};
 ghost use Rattle.top_run.specs.Runs.{Held, Input, Prints, moment, seen, held_at, IsOpened, RoseWhere, CountsWhere, is_read_fault, is_write_fault, is_door_fault};
 ghost use Rattle.top_run.specs.Serves.{serve_shape, serve_keep, ready_line, served_line, IsServedText, HasServed, course_of, ServeEnded};
 ghost use Rattle.run_words.specs.Words.{IsServe, most_served};
-ghost use Rattle.door_workers.specs.Attending.{told};
+ghost use Rattle.door_workers.specs.Attending.{seen_at};
 ghost use Rattle.door_workers.specs.Ends.{AreServed};
 ghost use Rattle.top_run.specs.Works.{IsNameOf, hub_terms};
 ghost use Rattle.top_run.specs.declared.runs.Status.{Status};
@@ -86,7 +86,7 @@ pub(crate) fn serve<
         let held = held_at place.now (K.holds keeper place.now) in
         let before = seen unread W.Sink K.Keeper sink.old keeper in
         let after = seen unread W.Sink K.Keeper sink.new result.keeper in
-        let tells = told D.bound D.lines D.faults D.ended D.closed in
+        let tells = seen_at D.bound D.lines D.faults D.ended D.closed in
         ServeEnded result.status spec.now
         (course_of held before after (tells door.old) (tells door.new) result) }
     ensures started { IsSome result.opening → K.is_started result.keeper }
@@ -166,15 +166,15 @@ fn serve_store<
 ) -> RunEnd<K>
     requires serve { IsServe server.now.spec.now }
     requires named { IsNameOf (serve_shape server.now.spec.now) serve_keep
-        store H.terms H.opening H.cap H.told H.start }
+        store H.terms H.opening H.cap H.known_rows H.start }
     requires new { store.ledger ≡ opened store.ledger.opening log_cap }
     requires ready { IsServeReady server.now.spec.now H.terms ready }
     requires parts { NamesParts H.name H.parts H.word H.before H.begun H.failed ready.parts.hub }
     ensures ended { (unread : Input) (rows : Option Tables) (held : Held) →
-        IsOpened held (serve_shape server.now.spec.now) store.ledger.opening store.told →
+        IsOpened held (serve_shape server.now.spec.now) store.ledger.opening store.known_rows →
         let before = moment unread (W.taken sink.old) (W.faults sink.old) rows store.faults in
         let after = seen unread W.Sink K.Keeper sink.new result.keeper in
-        let tells = told D.bound D.lines D.faults D.ended D.closed in
+        let tells = seen_at D.bound D.lines D.faults D.ended D.closed in
         ServeEnded result.status server.now.spec.now
         (course_of held before after (tells door.old) (tells door.new) result) }
     ensures started { K.is_started result.keeper }
@@ -244,19 +244,19 @@ fn serve_over_hub<
     ends: Vec<LineEnd>,
 ) -> Ran<K, H>
     requires serve { IsServe server.now.spec.now }
-    requires store { IsNamedStore H.opening H.cap H.told H.start store }
+    requires store { IsNamedStore H.opening H.cap H.known_rows H.start store }
     requires new { IsNewStore H.begun H.failed store }
-    requires parts { MakeHub H.terms H.opening H.before (is_none store.told)
+    requires parts { MakeHub H.terms H.opening H.before (is_none store.known_rows)
         H.name H.parts H.word parts }
     requires none_before { (place : ℕ) → H.before place ≡ [] }
     requires none { ends.items ≡ [] }
     requires room { IfSome (most_served server.now.spec.now.conns)
         (λ most. most ≤ vec_capacity ends) }
-    ensures store { IsNamedStore H.opening H.cap H.told H.start result.store }
+    ensures store { IsNamedStore H.opening H.cap H.known_rows H.start result.store }
     ensures as_many { length result.shards.items ≡ length parts.shards.items }
     ensures all { AreAll H.terms result.shards.items }
     ensures legal { AreLegal result.shards.items }
-    ensures served { let tells = told D.bound D.lines D.faults D.ended D.closed in
+    ensures served { let tells = seen_at D.bound D.lines D.faults D.ended D.closed in
         HasServed W.Sink server.now.spec.now result.served sink.old sink.new
         (tells door.old) (tells door.new) }
     ensures lines { D.fresh door.old → AreServed (most_served server.now.spec.now.conns)
@@ -319,7 +319,7 @@ fn serve_on_desks<
     requires none { ends.items ≡ [] }
     requires room { IfSome (most_served server.now.spec.now.conns)
         (λ most. most ≤ vec_capacity ends) }
-    ensures served { let tells = told D.bound D.lines D.faults D.ended D.closed in
+    ensures served { let tells = seen_at D.bound D.lines D.faults D.ended D.closed in
         HasServed W.Sink server.now.spec.now result sink.old sink.new
         (tells door.old) (tells door.new) }
     ensures lines { D.fresh door.old → AreServed (most_served server.now.spec.now.conns)
@@ -355,7 +355,7 @@ fn serve_lines<W: Sink, K: Desk + Send, D: Door, C, G, R: Threads + Wait + Sync>
     requires none { ends.items ≡ [] }
     requires room { IfSome (most_served server.now.spec.now.conns)
         (λ most. most ≤ vec_capacity ends) }
-    ensures served { let tells = told D.bound D.lines D.faults D.ended D.closed in
+    ensures served { let tells = seen_at D.bound D.lines D.faults D.ended D.closed in
         HasServed W.Sink server.now.spec.now result sink.old sink.new
         (tells door.old) (tells door.new) }
     ensures lines { D.fresh door.old → AreServed (most_served server.now.spec.now.conns)

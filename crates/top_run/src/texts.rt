@@ -1,7 +1,7 @@
 // A text that the words ask for.
 ghost use Rattle.std.specs.Prelude.{◌≡◌, ◌≢◌, ◌≤◌, ℕ, [], List, Option, None};
 ghost use Rattle.std.specs.Bool.{IsFalse};
-ghost use Rattle.top_run.specs.Commands.{IsTextPart, IsTextTold};
+ghost use Rattle.top_run.specs.Commands.{IsTextPart, IsTextPrinted};
 ghost use Rattle.top_run.specs.Runs.{Input, Prints, seen, left_at, RoseWhere, CountsWhere, is_read_fault, is_write_fault, is_door_fault};
 ghost use Rattle.top_run.specs.declared.runs.Status.{Status};
 
@@ -22,7 +22,7 @@ pub(crate) fn tell<W: Sink, K: Keeper>(
     ensures told { (unread : Input) →
         let before = seen unread W.Sink K.Keeper sink.old keeper in
         let after = seen unread W.Sink K.Keeper sink.new result.keeper in
-        IsTextTold text.now result.status before after (left_at result) result.written }
+        IsTextPrinted text.now result.status before after (left_at result) result.written }
     ensures keeper { result.keeper ≡ keeper }
     ensures opening { result.opening ≡ None }
     ensures no_ends { result.ends.items ≡ [] }

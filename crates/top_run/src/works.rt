@@ -19,7 +19,7 @@ ghost use Rattle.bound_hub.specs.Ties.{IsNewStore};
 ghost use Rattle.run_audit.specs.Findings.{histories_in, AreNumbered, AreWhole};
 ghost use Rattle.run_inputs.specs.Loads.{IsWork, load};
 ghost use Rattle.top_run.specs.Runs.{Held, Input, moment, seen, held_at, histories_at, left_at, IsOpened, RoseWhere, CountsWhere, is_read_fault, is_write_fault};
-ghost use Rattle.top_run.specs.Works.{work_shape, hub_terms, has_spent, first_spent, work_status, end_status, at_write_told, IsNameOf, HaveRun, IsSummary, IsTold, IsHalted, WorkEnded};
+ghost use Rattle.top_run.specs.Works.{work_shape, hub_terms, has_spent, first_spent, work_status, end_status, at_write_failed, IsNameOf, HaveRun, IsSummary, IsSummarized, IsHalted, WorkEnded};
 ghost use Rattle.top_run.specs.Ready.{AsksFirst, HaveWorked, IsReady, MakeHub, NamesParts};
 
 use crate::endings::{not_started, start_status};
@@ -134,12 +134,12 @@ fn work_on<
 ) -> RunEnd<K>
     requires work { IsWork spec.now }
     requires named { IsNameOf (work_shape spec.now) None
-        store H.terms H.opening H.cap H.told H.start }
+        store H.terms H.opening H.cap H.known_rows H.start }
     requires new { store.ledger ≡ opened store.ledger.opening log_cap }
     requires ready { IsReady spec.now H.terms ready }
     requires parts { NamesParts H.name H.parts H.word H.before H.begun H.failed ready.parts.hub }
     ensures ended { (unread : Input) (rows : Option Tables) (held : Held) →
-        IsOpened held (work_shape spec.now) store.ledger.opening store.told →
+        IsOpened held (work_shape spec.now) store.ledger.opening store.known_rows →
         let before = moment unread (W.taken sink.old) (W.faults sink.old) rows store.faults in
         let after = seen unread W.Sink K.Keeper sink.new result.keeper in
         WorkEnded result.status spec.now held before after (left_at result) result.written }
@@ -175,8 +175,8 @@ fn work_on<
         shards.as_slice(),
         transcripts,
     );
-    let told = tell(sink, &mut written, made);
-    ended_work(alloc, store, shards, told, written, histories)
+    let printed = tell(sink, &mut written, made);
+    ended_work(alloc, store, shards, printed, written, histories)
 }
 
 /// A store and its shards after the threads have ended, and the transcripts where memory sufficed.
@@ -203,9 +203,9 @@ fn run_plans<
     clock: &C,
     gate: &G,
 ) -> Ran<K, H>
-    requires store { IsNamedStore H.opening H.cap H.told H.start store }
+    requires store { IsNamedStore H.opening H.cap H.known_rows H.start store }
     requires new { IsNewStore H.begun H.failed store }
-    requires parts { MakeHub H.terms H.opening H.before (is_none store.told)
+    requires parts { MakeHub H.terms H.opening H.before (is_none store.known_rows)
         H.name H.parts H.word parts }
     requires none_before { (place : ℕ) → H.before place ≡ [] }
     requires from_one { (place : ℕ) → (H.terms place).first ≡ 1 }
@@ -215,11 +215,11 @@ fn run_plans<
     ensures ran { IfOk result.transcripts (λ transcripts.
         HaveRun (map (λ list. list.items) plans.now) (histories_in result.shards.items)
         transcripts.items) }
-    ensures store { IsNamedStore H.opening H.cap H.told H.start result.store }
+    ensures store { IsNamedStore H.opening H.cap H.known_rows H.start result.store }
     ensures as_many { length result.shards.items ≡ length parts.shards.items }
     ensures all { AreAll H.terms result.shards.items }
     ensures legal { AreLegal result.shards.items }
-    ensures fresh { IsSome result.store.told →
+    ensures fresh { IsSome result.store.known_rows →
         Fresh H.opening result.store.ledger.log (histories_in result.shards.items) }
     ensures covered { Covered result.store.ledger.log (histories_in result.shards.items) }
 {
@@ -327,7 +327,7 @@ fn tell<W: Sink>(
     ensures told { (spec : WorkSpec) (opening : Tables) (log : List Commit)
         (histories : List (List Step)) →
         IfOk made (λ one. IsSummary spec opening log histories one.finding one.text.items) →
-        IfOk result (IsTold spec opening log histories (W.taken sink.old) (W.taken sink.new)
+        IfOk result (IsSummarized spec opening log histories (W.taken sink.old) (W.taken sink.new)
         written.new) }
     ensures halted { (spec : WorkSpec) (opening : Tables) (log : List Commit)
         (histories : List (List Step)) →
@@ -335,7 +335,7 @@ fn tell<W: Sink>(
         IfErr result (IsHalted spec opening log histories (W.taken sink.old) (W.taken sink.new)
         written.new) }
     ensures memory { OnErr made (result ≡ Err Stop.Memory) }
-    ensures counts { RoseWhere W.faults (at_write_told result) sink.old sink.new }
+    ensures counts { RoseWhere W.faults (at_write_failed result) sink.old sink.new }
     ensures never_falls { W.faults sink.old ≤ W.faults sink.new }
 {
     let Ok(made) = made else {
@@ -352,7 +352,7 @@ fn ended_work<K: Keeper, N: Start>(
     alloc: Global,
     store: Store<K, N>,
     shards: Vec<Shard>,
-    told: Result<Finding, Stop>,
+    printed: Result<Finding, Stop>,
     written: u64,
     histories: Vec<Vec<Step>>,
 ) -> RunEnd<K>
@@ -361,29 +361,29 @@ fn ended_work<K: Keeper, N: Start>(
     requires none { histories.items ≡ [] }
     requires room { length shards.items ≤ vec_capacity histories }
     ensures status { result.status ≡ end_status (nat_lt 0 store.ledger.failed)
-        (first_spent (histories_in shards.items)) told }
+        (first_spent (histories_in shards.items)) printed }
     ensures started { K.is_started result.keeper }
-    ensures rows { K.rows result.keeper ≡ store.told }
+    ensures rows { K.rows result.keeper ≡ store.known_rows }
     ensures faults { K.faults result.keeper ≡ store.faults }
     ensures opening { result.opening ≡ Some store.ledger.opening }
     ensures log { result.log.items ≡ store.ledger.log }
     ensures histories { histories_at result ≡ histories_in shards.items }
     ensures written { result.written ≡ written }
     ensures no_ends { result.ends.items ≡ [] }
-    ensures told { ForSome store.told (λ told. told ≡ rows_of store.ledger) }
+    ensures told { ForSome store.known_rows (λ known. known ≡ rows_of store.ledger) }
     ensures since { FailedSince N.count store.ledger.failed store.faults }
 {
     let failed = store.failed() > 0;
-    let status = end_status(failed, first_spent(shards.as_slice()), told);
+    let status = end_status(failed, first_spent(shards.as_slice()), printed);
     ended_hub(status, store, shards, histories, Vec::new(alloc), written)
 }
 
 /// The status of a load's run that began: whether a call of its keeper failed, the least shard without
 /// a token left, and what stopped it, if something did.
-fn end_status(failed: bool, spent: Option<u32>, told: Result<Finding, Stop>) -> Status
-    ensures { result ≡ end_status failed spent told }
+fn end_status(failed: bool, spent: Option<u32>, printed: Result<Finding, Stop>) -> Status
+    ensures { result ≡ end_status failed spent printed }
 {
-    match told {
+    match printed {
         Err(Stop::WriteFault) => Status::WriteFault,
         Err(Stop::Memory) => Status::Memory,
         Ok(_) => work_status(failed, spent),

@@ -22,7 +22,7 @@ pub fn told_of(
         Ok(read) => read.text.len(),
         Err(_) => usize::MAX,
     };
-    let mut told = format!(in alloc;
+    let mut text = format!(in alloc;
         "ends {ends}\nstarted {started}\ncommits {}\nhistories {}\nserved {}\nclosed {closed}\nwritten {}\nunread {unread}\n",
         end.log.len(),
         end.histories.len(),
@@ -30,12 +30,12 @@ pub fn told_of(
         end.written,
     )?;
     for line in outside.door.closed() {
-        push_told(alloc, &mut told, line)?;
+        push_told(alloc, &mut text, line)?;
     }
     for end in end.ends.iter() {
-        push_end(alloc, &mut told, end)?;
+        push_end(alloc, &mut text, end)?;
     }
-    Ok(told)
+    Ok(text)
 }
 
 /// What the program writes to standard error at this end, or `done`.
@@ -57,15 +57,15 @@ fn status_text(alloc: Global, status: Status) -> Result<String, Memory> {
 }
 
 /// Tells what a connection was told, with `;` for CR LF.
-fn push_told(alloc: Global, told: &mut String, line: &MemLine) -> Result<(), Memory> {
+fn push_told(alloc: Global, its_text: &mut String, line: &MemLine) -> Result<(), Memory> {
     let text = str::from_utf8(line.taken()).unwrap_or("no text");
     let text = text.replace(alloc, "\r\n", ";")?;
     let line = format!(in alloc; "client told {text}\n")?;
-    Ok(told.push_str(line.as_str())?)
+    Ok(its_text.push_str(line.as_str())?)
 }
 
 /// Tells how a connection ended.
-fn push_end(alloc: Global, told: &mut String, end: &LineEnd) -> Result<(), Memory> {
+fn push_end(alloc: Global, text: &mut String, end: &LineEnd) -> Result<(), Memory> {
     let line = match end {
         LineEnd::Quit => format!(in alloc; "client ended quit\n")?,
         LineEnd::Closed { left } => format!(in alloc; "client ended closed {left}\n")?,
@@ -74,5 +74,5 @@ fn push_end(alloc: Global, told: &mut String, end: &LineEnd) -> Result<(), Memor
         } => format!(in alloc; "client ended bad block {place}\n")?,
         _ => format!(in alloc; "client ended otherwise\n")?,
     };
-    Ok(told.push_str(line.as_str())?)
+    Ok(text.push_str(line.as_str())?)
 }

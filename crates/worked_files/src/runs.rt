@@ -77,11 +77,11 @@ fn ends_so(
 ) -> Result<bool, Memory> {
     let keeper = MapKeeper::new(numbers(alloc, block, "keeper fails")?);
     let end = play(rt, alloc, words, &mut outside, keeper, still_clock(alloc)?);
-    let told = told_of(alloc, &end, &mut outside)?;
+    let text = told_of(alloc, &end, &mut outside)?;
     let printed = outside.sink.taken();
     let is_whole = said(block, "written").is_some() || printed.len() == wanted.len();
     let is_first = wanted.starts_with(printed) && end.written == printed.len() as u64;
-    Ok(is_whole && is_first && are_told(block, told.as_str()))
+    Ok(is_whole && is_first && are_told(block, text.as_str()))
 }
 
 /// A clock that stands still.

@@ -47,9 +47,9 @@ pub fn words_of(alloc: Global, text: &str) -> Result<Vec<Vec<u8>>, Memory> {
 }
 
 /// Whether each line that tells how the run must end is one of those told, and one of them is `ends`.
-pub fn are_told(block: &str, told: &str) -> bool {
+pub fn are_told(block: &str, text: &str) -> bool {
     for line in block.lines() {
-        if !(sets_up(line) || is_line_of(line, told)) {
+        if !(sets_up(line) || is_line_of(line, text)) {
             return false;
         }
     }

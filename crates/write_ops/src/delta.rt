@@ -22,7 +22,7 @@ impl From<ShardFault> for DeltaFault {
     ghost use Rattle.std.specs.Prelude.{◌≡◌};
     ghost use Rattle.write_ops.specs.declared.delta.DeltaFault.TheVariants as deltas;
 
-    ghost from_gives = { λ fault told. told ≡ deltas.Shard fault };
+    ghost from_gives = { λ fault given. given ≡ deltas.Shard fault };
 
     fn from(fault: ShardFault) -> DeltaFault {
         DeltaFault::Shard { fault }

@@ -5,8 +5,8 @@ use Rattle.bound_desk.proofs.WriteLemmas.{not_logged_yet}
 use Rattle.bound_desk.proofs.keeps.has_committed.Goals as goal
 
 pub returns-clause-shows : goal.returns-clause-shows
-returns-clause-shows g c = λ told.
+returns-clause-shows g c = λ telling.
     let late = c.has_committed.new.pass.seen in
     not_logged_yet c.args.pass.now.seen late c.args.who.number
     (subst (λ (p : PassView). IsBeginning p.seen late) (c.into_pass-other.ensures ∙ c.note.ensures.note) c.has_committed.ensures.seen)
-    (c.has_committed.ensures.shows told)
+    (c.has_committed.ensures.shows telling)

@@ -16,11 +16,11 @@ returns-clause-left g c =
     let there = c.join.new.self in
     let first = c.args.store.now.seen in
     let begins : IsBeginning c.args.bound.seen there.seen = subst (λ s. IsBeginning s there.seen) c.note.ensures.seen c.join.ensures.theirs in
-    let told : IsBeginning there.seen mine.seen = subst (λ s. IsBeginning s mine.seen) c.note-2.ensures.seen c.join-2.ensures.theirs in
+    let same : IsBeginning there.seen mine.seen = subst (λ s. IsBeginning s mine.seen) c.note-2.ensures.seen c.join-2.ensures.theirs in
     let together : IsTogether c.args.bound.seen there.seen mine.seen =
     subst (λ s. IsTogether s there.seen mine.seen) (ap (λ (v : BoundShardView). v.seen) c.note.ensures.same)
     (subst (λ s. IsTogether c.note.new.self.seen s mine.seen) c.note-2.ensures.seen c.join-2.ensures.together) in
-    let early = beginning_trans first there.seen mine.seen c.join.ensures.mine told in
+    let early = beginning_trans first there.seen mine.seen c.join.ensures.mine same in
     subst (λ (s : StoreView). IsLeft g.H.HubName.opening g.H.BoundName.before s first c.into_parts.result.0) c.join.ensures.store
     (subst (λ (v : ShardView). IsLeft g.H.HubName.opening g.H.BoundName.before there.store first v) (sym shard.same)
     (is_left g.H.BoundName.word g.H.HubName.opening g.H.BoundName.before g.H.BoundName.begun g.H.BoundName.failed mine.shard there.store mine.seen there.seen

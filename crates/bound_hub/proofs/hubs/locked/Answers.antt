@@ -18,8 +18,8 @@ unreachable-requires g c =
     let passes = ap (λ (l : List ShardPassView). length l) before.passes ∙ as_many_passes g.H.BoundName.word (length all) in
     grind (arith, many, passes, c.in_default-pop.ensures.cases, c.in_default-pop.ensures.variant, c.in_default-pop.ensures.len)
 
-pub shard_told-pass-requires-clause-word : goal.shard_told-pass-requires-clause-word
-shard_told-pass-requires-clause-word g c =
+pub shard_noted-pass-requires-clause-word : goal.shard_noted-pass-requires-clause-word
+shard_noted-pass-requires-clause-word g c =
     let before = c.loop-shard.invariant in
     let all = c.loop-shard.shards.items in
     let left = c.pop.new.self.items in
@@ -29,8 +29,8 @@ shard_told-pass-requires-clause-word g c =
     let taken = last_pass g.H.BoundName.word (length all) (length left) c.loop-shard.passes.items c.pop-in-Some.new.self.items c.in-Some-pop.pass before.passes many c.in-Some-pop.ensures.items in
     ap (λ (p : ShardPassView). p.word) taken.1 ∙ sym c.requires.word
 
-pub shard_told-pass-requires-clause-blind : goal.shard_told-pass-requires-clause-blind
-shard_told-pass-requires-clause-blind g c =
+pub shard_noted-pass-requires-clause-blind : goal.shard_noted-pass-requires-clause-blind
+shard_noted-pass-requires-clause-blind g c =
     let before = c.loop-shard.invariant in
     let all = c.loop-shard.shards.items in
     let left = c.pop.new.self.items in
@@ -81,7 +81,7 @@ new-requires-clause-word g c =
     let items : all ≡ left ++ last ∷ [] = c.in-Some.ensures.items in
     let many = one_fewer all left last items in
     let taken = last_pass g.H.BoundName.word (length all) (length left) c.loop-shard.passes.items c.pop-in-Some.new.self.items c.in-Some-pop.pass before.passes many c.in-Some-pop.ensures.items in
-    c.shard_told-pass.ensures.word ∙ ap (λ (p : ShardPassView). p.word) taken.1
+    c.shard_noted-pass.ensures.word ∙ ap (λ (p : ShardPassView). p.word) taken.1
 
 pub new-requires-clause-number : goal.new-requires-clause-number
 new-requires-clause-number g c =
@@ -93,7 +93,7 @@ new-requires-clause-number g c =
     let many = one_fewer all left last items in
     let taken = last_pass g.H.BoundName.word (length all) (length left) c.loop-shard.passes.items c.pop-in-Some.new.self.items c.in-Some-pop.pass before.passes many c.in-Some-pop.ensures.items in
     let placed = placed_before left last (subst ArePlaced items before.placed) in
-    c.shard_told-pass.ensures.shard ∙ ap (λ (p : ShardPassView). p.shard) taken.1 ∙ sym placed.1
+    c.shard_noted-pass.ensures.shard ∙ ap (λ (p : ShardPassView). p.shard) taken.1 ∙ sym placed.1
 
 pub new-requires-clause-new : goal.new-requires-clause-new
 new-requires-clause-new g c =
@@ -103,7 +103,7 @@ new-requires-clause-new g c =
     let last = c.in-Some.shard in
     let items : all ≡ left ++ last ∷ [] = c.in-Some.ensures.items in
     let many = one_fewer all left last items in
-    let stopped = c.shard_told-pass.ensures.only.stopped_is ∙ ap (λ (p : PassView). p.seen.stopped) (c.note.ensures.note ∙ before.caller) in
+    let stopped = c.shard_noted-pass.ensures.only.stopped_is ∙ ap (λ (p : PassView). p.seen.stopped) (c.note.ensures.note ∙ before.caller) in
     subst (λ b. IsNewShard g.H.HubName.opening g.H.BoundName.before b last) (sym stopped)
     (all_but_last (IsNewShard g.H.HubName.opening g.H.BoundName.before c.args.caller.now.seen.stopped) all left last items before.new).1
 

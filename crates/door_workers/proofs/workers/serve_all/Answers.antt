@@ -1,7 +1,7 @@
 use Rattle.door_workers.proofs.EndLemmas.{none-served, served-as, served-same}
 use Rattle.door_workers.proofs.StandLemmas.{at-first, attended-as}
 use Rattle.std.proofs.Common.{rules, ◌≡◌, refl, ap, subst, ◌∙◌}
-use Rattle.door_workers.specs.Attending.{WasAttended, told}
+use Rattle.door_workers.specs.Attending.{WasAttended, seen_at}
 use Rattle.door_workers.specs.Ends.{AreServed}
 use Rattle.door_workers.specs.declared.progress.Progress.{Progress}
 use Rattle.door_workers.proofs.workers.serve_all.Goals as goal
@@ -15,7 +15,7 @@ attend-lent-requires-clause-handed_back g c κs outlives = λ fresh.
 
 pub returns-clause-attended : goal.returns-clause-attended
 returns-clause-attended g c =
-    let tells = told g.D.Door.bound g.D.Door.lines g.D.Door.faults g.D.Door.ended g.D.Door.closed in
+    let tells = seen_at g.D.Door.bound g.D.Door.lines g.D.Door.faults g.D.Door.ended g.D.Door.closed in
     let same : c.attend-lent.result.door.now ≡ c.door-1.given.0 = search rules in
     subst
     (λ door. WasAttended c.args.conns (tells c.args.door.now) (tells door) c.attend-lent.new.so_far.ends.items c.attend-lent.new.so_far.accepted

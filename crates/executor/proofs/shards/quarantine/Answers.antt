@@ -5,4 +5,4 @@ use Rattle.executor.proofs.shards.quarantine.Goals as goal
 
 pub returns-in-Ok-clause-belongs : goal.returns-in-Ok-clause-belongs
 returns-in-Ok-clause-belongs c =
-    quarantine_belongs c.args.shard.now.terms (past_of c.args.shard.now) c.args.key c.args.who Invalidate _ _ c.in-Ok.told c.in-Ok.ensures.shows
+    quarantine_belongs c.args.shard.now.terms (past_of c.args.shard.now) c.args.key c.args.who Invalidate _ _ c.in-Ok.answer c.in-Ok.ensures.shows

@@ -6,16 +6,16 @@ use Rattle.std.proofs.lemmas.List.Elements.{All-cons, All-same}
 use Rattle.std.proofs.lemmas.List.Sorted.{All-permutation}
 use Rattle.lease_table.specs.declared.index.Term.{Term}
 use Rattle.lease_table.specs.Leases.{has_token}
-use Rattle.lease_table.specs.Stands.{stands_in}
+use Rattle.lease_table.specs.Standing.{stands_in}
 use Rattle.lease_table.specs.Index.{is_listed, KeepsOthers}
 use Rattle.lease_table.proofs.ListLemmas.{find-passes}
 use Rattle.lease_table.proofs.IndexLemmas.{ListsEach-again, ListsEach-forgot}
-use Rattle.lease_table.proofs.DueLemmas.{due-told}
+use Rattle.lease_table.proofs.DueLemmas.{due-found}
 use Rattle.lease_table.proofs.dues.due_or_later.Goals as goal
 
 pub returns-then-quar-now-clause-due : goal.returns-then-quar-now-clause-due
 returns-then-quar-now-clause-due c =
-    due-told c.args.now (stands_in c.args.leases.now) c.args.found.key c.args.found.token c.in-Some.quar (sym c.in-Some.ensures) c.if-quar-now.true
+    due-found c.args.now (stands_in c.args.leases.now) c.args.found.key c.args.found.token c.in-Some.quar (sym c.in-Some.ensures) c.if-quar-now.true
 
 pub returns-else-quar-now-clause-lists : goal.returns-else-quar-now-clause-lists
 returns-else-quar-now-clause-lists c =

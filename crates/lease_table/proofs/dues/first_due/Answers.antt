@@ -1,4 +1,4 @@
-use Rattle.lease_table.specs.Stands.{stands_in}
+use Rattle.lease_table.specs.Standing.{stands_in}
 use Rattle.lease_table.proofs.DueLemmas.{none-due, none-before}
 use Rattle.lease_table.proofs.dues.first_due.Goals as goal
 

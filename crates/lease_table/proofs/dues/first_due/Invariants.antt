@@ -1,6 +1,6 @@
 use Rattle.std.specs.BinaryHeap.{heap_len}
 use Rattle.lease_table.specs.Index.{IsSound, ListsEach, AllAhead}
-use Rattle.lease_table.specs.Stands.{stands_in}
+use Rattle.lease_table.specs.Standing.{stands_in}
 use Rattle.lease_table.proofs.dues.first_due.Given as goal
 
 -- what stands is listed, and the deadlines of all terms that aren't found lie ahead

@@ -1,6 +1,6 @@
 use Rattle.std.proofs.Common.{◌<◌, List, length, add-one, subst}
 use Rattle.lease_table.specs.declared.records.Quar.{Quar}
-use Rattle.lease_table.specs.Stands.{changed}
+use Rattle.lease_table.specs.Standing.{changed}
 use Rattle.lease_table.proofs.ListLemmas.{set-map_next}
 use Rattle.lease_table.proofs.edits.change_each.Goals as goal
 

@@ -1,5 +1,5 @@
 use Rattle.std.proofs.Common.{◌≡◌, ◌++◌, take, drop, map}
-use Rattle.lease_table.specs.Stands.{changed}
+use Rattle.lease_table.specs.Standing.{changed}
 use Rattle.lease_table.proofs.edits.change_each.Given as goal
 
 -- those so far are changed, and the others are as they were

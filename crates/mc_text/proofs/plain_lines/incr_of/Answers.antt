@@ -5,7 +5,7 @@ use Rattle.mc_text.proofs.PlainLineLemmas.{counted_plain, counted_query}
 use Rattle.mc_text.proofs.plain_lines.incr_of.Goals as goal
 
 pub returns-in_default-clause-none : goal.returns-in_default-clause-none
-returns-in_default-clause-none c = λ told noreply h. c.in_default.ensures.none (record { key = h.1.key; by = h.0; noreply = noreply }) h.1.words_are
+returns-in_default-clause-none c = λ said noreply h. c.in_default.ensures.none (record { key = h.1.key; by = h.0; noreply = noreply }) h.1.words_are
 
 pub returns-in-Some-2-clause-found : goal.returns-in-Some-2-clause-found
 returns-in-Some-2-clause-found c = (

@@ -5,11 +5,11 @@ use Rattle.run_audit.proofs.answers.note_hits.Goals as goal
 
 pub loop-step-preserved : goal.loop-step-preserved
 loop-step-preserved c =
-    let told = c.in_ok-note_hit.ensures in (
-      told.opening,
-      keeps-on c.args.answers.now c.loop-step.answers c.note_hit.new.answers c.loop-step.invariant.1 told.keeps,
+    let made = c.in_ok-note_hit.ensures in (
+      made.opening,
+      keeps-on c.args.answers.now c.loop-step.answers c.note_hit.new.answers c.loop-step.invariant.1 made.keeps,
       knows-more c.loop-step.answers c.note_hit.new.answers c.args.history.now c.loop-step.step-index c.step-item.result
-          (omega arith) c.step-item.is c.loop-step.invariant.2 told.keeps told.knows,
+          (omega arith) c.step-item.is c.loop-step.invariant.2 made.keeps made.knows,
     )
 
 pub returns-clause-knows : goal.returns-clause-knows

@@ -18,11 +18,11 @@ returns-clause-said c =
     let words : List (List ℕ) = map (λ text. text.now) c.args.texts.now in
     let r : Refuses words (kind_of c.in-Err.error) =
     refuses (app_of c.in_ok-program.program) words (kind_of c.in-Err.error) c.in_ok-program.ensures c.in-Err.ensures.kinds in
-    text_said words (kind_of c.in-Err.error) c.told_by.result r c.told_by.ensures
+    text_said words (kind_of c.in-Err.error) c.text_by.result r c.text_by.ensures
 
 pub returns-clause-usage : goal.returns-clause-usage
 returns-clause-usage c =
     let words : List (List ℕ) = map (λ text. text.now) c.args.texts.now in
     let r : Refuses words (kind_of c.in-Err.error) =
     refuses (app_of c.in_ok-program.program) words (kind_of c.in-Err.error) c.in_ok-program.ensures c.in-Err.ensures.kinds in
-    refused words (kind_of c.in-Err.error) c.told_by.result r c.told_by.ensures
+    refused words (kind_of c.in-Err.error) c.text_by.result r c.text_by.ensures

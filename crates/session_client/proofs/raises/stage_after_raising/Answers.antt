@@ -2,7 +2,7 @@ use Rattle.std.proofs.Common.{refl, ◌<◌, length, length-set, arith, subst, L
 use Rattle.std.specs.Option.{option_map}
 use Rattle.std.proofs.lemmas.List.Edits.{length-insert, length-remove}
 use Rattle.key_shard.specs.declared.replies.Raising.TheVariants as raising
-use Rattle.session_client.specs.declared.replies.Reply.TheVariants as reply
+use Rattle.session_client.specs.declared.replies.Reply.TheVariants as Reply
 use Rattle.session_client.specs.Wants.{given, granted}
 use Rattle.session_client.proofs.TurnLemmas.{back_invalid, raised_items, raised_values, same_items, same_values, spent_items, spent_values, turned_next}
 use Rattle.session_client.proofs.raises.stage_after_raising.Goals as goal
@@ -19,14 +19,14 @@ returns-in-Raised-clause-room c = λ next keys.
     )
 
 pub returns-in-Raised-clause-follows : goal.returns-in-Raised-clause-follows
-returns-in-Raised-clause-follows c = λ writing short heard told follows.
+returns-in-Raised-clause-follows c = λ writing short heard granted_so follows.
     let (turn, same, lent) = follows in
     let (items, roomy, values, kept, number, outcome, ample) = lent in
     let less = c.requires.room.0 in
-    let within : c.args.place < length (granted heard) = subst (λ l. c.args.place < length l) told less in
+    let within : c.args.place < length (granted heard) = subst (λ l. c.args.place < length l) granted_so less in
     rw (c.in-Raised.is, c.put_raised.ensures, c.behind-behind.ensures) (
       refl,
-      turned_next (reply.Raise (raising.Raised c.in-Raised.grant c.in-Raised.old)) heard c.args.place refl turn,
+      turned_next (Reply.Raise (raising.Raised c.in-Raised.grant c.in-Raised.old)) heard c.args.place refl turn,
       same,
       (
         raised_items c.args.hand.now.grants.items (granted heard) c.args.place _ c.in-Raised.grant items within turn,
@@ -49,17 +49,17 @@ returns-in-Shared-clause-room c = λ next keys.
     )
 
 pub returns-in-Shared-clause-follows : goal.returns-in-Shared-clause-follows
-returns-in-Shared-clause-follows c = λ writing short heard told follows.
+returns-in-Shared-clause-follows c = λ writing short heard granted_so follows.
     let (lent, at, awaits) = c.requires.awaits in
     let back = rw c.in-Shared.is at awaits in
     let (turn, same, out) = follows in
     let (items, roomy, values, kept, number, outcome, ample) = out in
     rw (c.in-Shared.is, c.put_at.ensures, c.behind-behind-in-Shared.ensures) (
       refl,
-      turned_next (reply.Raise (raising.Shared c.in-Shared.grant c.in-Shared.holder)) heard c.args.place refl turn,
+      turned_next (Reply.Raise (raising.Shared c.in-Shared.grant c.in-Shared.holder)) heard c.args.place refl turn,
       same,
       (
-        same_items c.args.hand.now.grants.items (granted heard) c.args.place lent c.in-Shared.grant items (rw told at at) back,
+        same_items c.args.hand.now.grants.items (granted heard) c.args.place lent c.in-Shared.grant items (rw granted_so at at) back,
         roomy,
         same_values c.args.hand.now.values (given heard) values,
         kept,
@@ -78,7 +78,7 @@ returns-in-Gone-clause-room c = λ next keys.
     ((omega (arith, fewer, items), omega (arith, fewer, lighter, values), omega (arith, fewer, room), long), c.requires.rest)
 
 pub returns-in-Gone-clause-follows : goal.returns-in-Gone-clause-follows
-returns-in-Gone-clause-follows c = λ writing short heard told follows.
+returns-in-Gone-clause-follows c = λ writing short heard granted_so follows.
     let (turn, same, out) = follows in
     let (items, roomy, values, kept, number, outcome, ample) = out in
     rw (c.in-Gone.is, c.forget.ensures) (

@@ -21,6 +21,6 @@ loop-row-preserved g c =
 pub returns-clause-answers : goal.returns-clause-answers
 returns-clause-answers g c = λ done.
     let all : take c.loop-row.row-index c.args.rows.now ≡ c.args.rows.now = take_all c.loop-row.row-index c.args.rows.now (omega arith) in
-    let known : AreAnswers c.loop-row.store.told c.args.store.now.ledger.opening c.args.rows.now =
-    subst (λ (rows : List DumpRow). AreAnswers c.loop-row.store.told c.args.store.now.ledger.opening rows) all c.loop-row.invariant.answers in
-    subst (λ (t : Tables). AreAnswers c.loop-row.store.told t c.args.rows.now) (sym c.loop-row.invariant.asked.opening) known
+    let known : AreAnswers c.loop-row.store.known_rows c.args.store.now.ledger.opening c.args.rows.now =
+    subst (λ (rows : List DumpRow). AreAnswers c.loop-row.store.known_rows c.args.store.now.ledger.opening rows) all c.loop-row.invariant.answers in
+    subst (λ (t : Tables). AreAnswers c.loop-row.store.known_rows t c.args.rows.now) (sym c.loop-row.invariant.asked.opening) known

@@ -4,6 +4,6 @@ use Rattle.shard_dump.proofs.asked.are_answers.Given as goal
 
 abbrev pub invariant-loop-row : goal.invariant-loop-row
 invariant-loop-row g l = record {
-  answers : AreAnswers l.store.told l.fn.store.ledger.opening (take l.row-index l.rows);
+  answers : AreAnswers l.store.known_rows l.fn.store.ledger.opening (take l.row-index l.rows);
   asked : HasAsked l.fn.store l.store;
 }

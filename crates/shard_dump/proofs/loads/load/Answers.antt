@@ -20,6 +20,6 @@ returns-in_err-load_rows-clause-store g c =
 
 pub returns-clause-right : goal.returns-clause-right
 returns-clause-right g c = λ some.
-    rows_right c.args.store.now.told c.begin.new.self.told c.args.store.now.ledger.opening c.begin.new.self.ledger.opening (past_of c.load_rows.new.shard)
+    rows_right c.args.store.now.known_rows c.begin.new.self.known_rows c.args.store.now.ledger.opening c.begin.new.self.ledger.opening (past_of c.load_rows.new.shard)
     c.args.rows.items c.requires.answers c.begin.ensures.keeper.0 (ap (λ (l : Ledger). l.opening) c.in_ok-who.ensures.ledger)
     c.in_ok-load_rows.ensures.loaded.has some

@@ -20,10 +20,10 @@ returns-clause-held g c clean tables =
     let here = subst (λ (db : Database). HasTables db.schema) (sym same) tables in
     let holds = subst (λ (db : Database). HoldLists db.trees lists) (sym same) found in
     let are = c.in_ok-add_index.ensures.added clean here lists holds in
-    let told = subst
+    let held_so = subst
     (λ (ps : List Pair). AllPairs IsPairBefore ps → c.in_ok-rows.rows ≡ tables_of (record { members = c.in_ok-found.found.members.items; pairs = ps }))
     c.as_slice.ensures.value c.in_ok-rows.ensures in
-    holds_rows (state g.S.Store c.add_index.new.tx.conn.now).now lists c.in_ok-rows.rows are (told found.pairs_ascend)
+    holds_rows (state g.S.Store c.add_index.new.tx.conn.now).now lists c.in_ok-rows.rows are (held_so found.pairs_ascend)
 
 pub returns-clause-begun : goal.returns-clause-begun
 returns-clause-begun g c clean tables lists holds =
@@ -31,7 +31,7 @@ returns-clause-begun g c clean tables lists holds =
     let found = c.in_ok-found.ensures.found early tables in
     let here : Lists = record { members = c.in_ok-found.found.members.items; pairs = c.in_ok-found.found.pairs.items } in
     let one = held_are_one (state g.S.Store c.args.tx.now.conn.now).now.trees here lists found holds in
-    let told = subst
+    let held_so = subst
     (λ (ps : List Pair). AllPairs IsPairBefore ps → c.in_ok-rows.rows ≡ tables_of (record { members = c.in_ok-found.found.members.items; pairs = ps }))
     c.as_slice.ensures.value c.in_ok-rows.ensures in
     let many : length c.in_ok-found.found.members.items ≡ vec_len c.in_ok-found.found.members = grind arith in
@@ -47,7 +47,7 @@ returns-clause-begun g c clean tables lists holds =
           omega (arith, apart, many)
     ] in
     subst (λ (l : Lists). c.in_ok-rows.rows ≡ begun c.args.members l) one
-    (told found.pairs_ascend ∙ sym (begun_lists c.args.members here.members here.pairs some))
+    (held_so found.pairs_ascend ∙ sym (begun_lists c.args.members here.members here.pairs some))
 
 pub returns-then-is_empty-2-clause-begun : goal.returns-then-is_empty-2-clause-begun
 returns-then-is_empty-2-clause-begun g c = λ clean tables lists holds.

@@ -8,7 +8,7 @@ ghosts-goes_well-H-HubName g a = record {
   terms = terms_at a.shape.now.shards a.shape.now.room a.shape.now.life None;
   opening = a.store.ledger.opening;
   cap = a.store.ledger.cap;
-  told = a.store.told;
+  known_rows = a.store.known_rows;
   start = Some a.store.faults;
 }
 

@@ -16,7 +16,7 @@ loop-shards-preserved c =
     let shard = c.remove-shard.result in
     let one = c.take_history.result in
     let gone = c.remove-shard.ensures in
-    let told = c.take_history.ensures in
+    let made = c.take_history.ensures in
     let items : Vec Step Global → List Step = λ history. history.items in
     let history : ShardView → List Step = λ view. view.history in
     let before = map items c.loop-shards.histories.items in
@@ -24,9 +24,9 @@ loop-shards-preserved c =
     let out : map items c.push_reserved.new.self.items ≡ before ++ one.items ∷ [] =
     ap (λ (l : List (Vec Step Global)). map items l) c.push_reserved.ensures.items ∙ map_push items c.loop-shards.histories.items one in
     record {
-      handed = rw out (handed_next kept_of before _ shards rest shard one.items some gone.value gone.items told.steps was.handed);
+      handed = rw out (handed_next kept_of before _ shards rest shard one.items some gone.value gone.items made.steps was.handed);
       room = grind (arith, common_steps, was.room, gone.len, c.push_reserved.ensures.len, c.push_reserved.ensures.capacity);
       left = λ whole. whole_rest shards rest gone.items some (was.left whole);
       whole = λ whole. rw out (handed_next history before _ shards rest shard one.items some gone.value gone.items
-          (told.whole (whole_first shards shard some gone.value (was.left whole))) (was.whole whole));
+          (made.whole (whole_first shards shard some gone.value (was.left whole))) (was.whole whole));
     }

@@ -17,7 +17,7 @@ pub returns-in-Ok-new-clause-ended : goal.returns-in-Ok-new-clause-ended
 returns-in-Ok-new-clause-ended g c = λ unread read is_read.
     let core = c.in-Ok-new.core in
     let held : Held = held_at c.args.place.now (g.K.Keeper.holds c.args.keeper c.args.place.now) in
-    let opened : IsOpened held c.args.script.shape core.store.ledger.opening core.store.told =
-    subst (λ (shape : Shape). IsOpened held shape core.store.ledger.opening core.store.told) c.shape-2.ensures
+    let opened : IsOpened held c.args.script.shape core.store.ledger.opening core.store.known_rows =
+    subst (λ (shape : Shape). IsOpened held shape core.store.ledger.opening core.store.known_rows) c.shape-2.ensures
     (record { fresh = c.in-Ok-new.ensures.fresh; opened = λ rows is. c.in-Ok-new.ensures.held (ap (λ (o : Option Tables). is_some o) is) }) in
     rw (sym c.in-Ok-new.ensures.counts) (c.play_core.ensures.ended unread read (g.K.Keeper.rows c.args.keeper) held is_read opened)

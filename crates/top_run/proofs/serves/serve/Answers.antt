@@ -10,7 +10,7 @@ pub returns-in-Ok-new-clause-ended : goal.returns-in-Ok-new-clause-ended
 returns-in-Ok-new-clause-ended g c = λ unread.
     let store = c.in-Ok-new.store in
     let held = held_at c.args.place.now (g.K.Keeper.holds c.args.keeper c.args.place.now) in
-    let opened : IsOpened held (serve_shape c.args.spec.now) store.ledger.opening store.told =
+    let opened : IsOpened held (serve_shape c.args.spec.now) store.ledger.opening store.known_rows =
     record { fresh = c.in-Ok-new.ensures.fresh; opened = λ rows is. c.in-Ok-new.ensures.held (ap (λ (o : Option Tables). is_some o) is) } in
     rw (sym c.in-Ok-new.ensures.counts) (c.serve_store.ensures.ended unread (g.K.Keeper.rows c.args.keeper) held opened)
 

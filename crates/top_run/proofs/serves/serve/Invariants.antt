@@ -10,7 +10,7 @@ ghosts-serve_store-H-HubName g a = record {
   terms = hub_terms (serve_shape a.server.now.spec.now) serve_keep;
   opening = a.store.ledger.opening;
   cap = log_cap;
-  told = a.store.told;
+  known_rows = a.store.known_rows;
   start = Some a.store.faults;
 }
 

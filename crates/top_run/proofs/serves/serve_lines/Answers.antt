@@ -3,7 +3,7 @@ use Rattle.std.specs.Prelude.{◌≢◌}
 use Rattle.std.specs.Option.{option_map}
 use Rattle.iq_outside.specs.Outside.{LineRecord}
 use Rattle.run_words.specs.Words.{most_served}
-use Rattle.door_workers.specs.Attending.{told}
+use Rattle.door_workers.specs.Attending.{seen_at}
 use Rattle.door_workers.specs.Ends.{AreServed}
 use Rattle.top_run.proofs.ServeLemmas.{unattended, none_served}
 use Rattle.top_run.proofs.serves.serve_lines.Goals as goal
@@ -12,7 +12,7 @@ pub returns-in-Err-clause-served : goal.returns-in-Err-clause-served
 returns-in-Err-clause-served g c =
     let halted = c.in-Err.ensures.halted in
     let bound = subst (λ (addr : List ℕ). halted.0 ≢ [] → g.D.Door.bound c.open_up.new.door ≡ Some addr) c.as_slice.ensures.value halted.1 in
-    let tells = told g.D.Door.bound g.D.Door.lines g.D.Door.faults g.D.Door.ended g.D.Door.closed in
+    let tells = seen_at g.D.Door.bound g.D.Door.lines g.D.Door.faults g.D.Door.ended g.D.Door.closed in
     record {
       attended = rw c.requires.none
           (unattended c.args.server.now.spec.now c.in-Err.status (g.W.Sink.taken c.args.sink.now) (g.W.Sink.taken c.open_up.new.sink)

@@ -5,7 +5,7 @@ use Rattle.std.proofs.lemmas.List.{length-map}
 use Rattle.key_shard.specs.Shards.{kept_of}
 use Rattle.top_run.specs.Runs.{moment, IsOpened, kept_in, is_read_fault}
 use Rattle.top_run.specs.Serves.{serve_shape, serve_keep, Course}
-use Rattle.door_workers.specs.Attending.{told}
+use Rattle.door_workers.specs.Attending.{seen_at}
 use Rattle.top_run.proofs.KeepLemmas.{opened_since}
 use Rattle.core_history.specs.Machine.{log_cap}
 use Rattle.bound_hub.proofs.NewLemmas.{opened_is_new}
@@ -31,14 +31,14 @@ returns-clause-ended g c = λ unread rows held opens.
     let served = c.serve_over_hub-store.result.served in
     let spec = c.args.server.now.spec.now in
     let shape = serve_shape spec in
-    let tells = told g.D.Door.bound g.D.Door.lines g.D.Door.faults g.D.Door.ended g.D.Door.closed in
+    let tells = seen_at g.D.Door.bound g.D.Door.lines g.D.Door.faults g.D.Door.ended g.D.Door.closed in
     let before = moment unread (g.W.Sink.taken c.args.sink.now) (g.W.Sink.faults c.args.sink.now) rows c.args.store.faults in
-    let after = moment unread (g.W.Sink.taken c.serve_over_hub-store.new.sink) (g.W.Sink.faults c.serve_over_hub-store.new.sink) store.told store.faults in
+    let after = moment unread (g.W.Sink.taken c.serve_over_hub-store.new.sink) (g.W.Sink.faults c.serve_over_hub-store.new.sink) store.known_rows store.faults in
     let named = c.serve_over_hub-store.ensures.store in
-    let before_now : IsSome store.told → IsSome c.args.store.told = λ some.
-    subst (λ (r : Option Tables). IsSome r) c.requires.named.told_is (named.told_before some) in
-    let opened = subst (λ (opening : Tables). IsOpened held shape opening store.told) (c.requires.named.opening_is ∙ sym named.opening_is)
-    (opened_since held shape c.args.store.ledger.opening c.args.store.told store.told before_now opens) in
+    let before_now : IsSome store.known_rows → IsSome c.args.store.known_rows = λ some.
+    subst (λ (r : Option Tables). IsSome r) c.requires.named.told_is (named.known_before some) in
+    let opened = subst (λ (opening : Tables). IsOpened held shape opening store.known_rows) (c.requires.named.opening_is ∙ sym named.opening_is)
+    (opened_since held shape c.args.store.ledger.opening c.args.store.known_rows store.known_rows before_now opens) in
     let many : length (kept_in shards) ≡ shape.shards =
     length-map shards kept_of ∙ c.serve_over_hub-store.ensures.as_many ∙ c.requires.ready.parts.as_many in
     let last = last_of g.H.HubName.terms shape 256 shards c.requires.named.terms_are c.serve_over_hub-store.ensures.all c.serve_over_hub-store.ensures.legal in

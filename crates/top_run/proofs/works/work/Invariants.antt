@@ -9,7 +9,7 @@ ghosts-work_on-H-HubName g a = record {
   terms = hub_terms (work_shape a.spec.now) None;
   opening = a.store.ledger.opening;
   cap = log_cap;
-  told = a.store.told;
+  known_rows = a.store.known_rows;
   start = Some a.store.faults;
 }
 

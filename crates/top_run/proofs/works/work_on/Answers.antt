@@ -68,12 +68,12 @@ returns-clause-ended g c = λ unread rows held opens.
     let short = (rw c.log.ensures.items at c.log.ensures.few) in
     let made = (rw (c.opening.ensures, c.log.ensures.items, c.as_slice-2.ensures.value) at c.summed_up-made.ensures.summary) in
     let before = moment unread (g.W.Sink.taken c.args.sink.now) (g.W.Sink.faults c.args.sink.now) rows c.args.store.faults in
-    let after = moment unread (g.W.Sink.taken c.tell-told.new.sink) (g.W.Sink.faults c.tell-told.new.sink) store.told store.faults in
+    let after = moment unread (g.W.Sink.taken c.tell-printed.new.sink) (g.W.Sink.faults c.tell-printed.new.sink) store.known_rows store.faults in
     let named = c.run_plans-store.ensures.store in
-    let before_now : IsSome store.told → IsSome c.args.store.told = λ some.
-    subst (λ (r : Option Tables). IsSome r) c.requires.named.told_is (named.told_before some) in
-    let opened = subst (λ (opening : Tables). IsOpened held (work_shape spec) opening store.told) (c.requires.named.opening_is ∙ sym named.opening_is)
-    (opened_since held (work_shape spec) c.args.store.ledger.opening c.args.store.told store.told before_now opens) in
+    let before_now : IsSome store.known_rows → IsSome c.args.store.known_rows = λ some.
+    subst (λ (r : Option Tables). IsSome r) c.requires.named.told_is (named.known_before some) in
+    let opened = subst (λ (opening : Tables). IsOpened held (work_shape spec) opening store.known_rows) (c.requires.named.opening_is ∙ sym named.opening_is)
+    (opened_since held (work_shape spec) c.args.store.ledger.opening c.args.store.known_rows store.known_rows before_now opens) in
     let many : length (histories_in shards) ≡ spec.shards =
     length-map shards (λ (s : ShardView). s.history) ∙ c.run_plans-store.ensures.as_many ∙ c.requires.ready.parts.as_many in
     let legal = legal_of g.H.HubName.terms (work_shape spec) shards c.requires.named.terms_are c.run_plans-store.ensures.all c.run_plans-store.ensures.legal in
@@ -91,27 +91,27 @@ returns-clause-ended g c = λ unread rows held opens.
       c.ended_work.ensures.rows,
       c.ended_work.ensures.faults,
     )
-    (work_ended spec held before after (left_of store (histories_in shards)) c.tell-told.new.written store.ledger.opening store.ledger.failed kept c.tell-told.result
-    (c.tell-told.ensures.told spec store.ledger.opening store.ledger.log (histories_in shards) made)
-    (c.tell-told.ensures.halted spec store.ledger.opening store.ledger.log (histories_in shards) made))
+    (work_ended spec held before after (left_of store (histories_in shards)) c.tell-printed.new.written store.ledger.opening store.ledger.failed kept c.tell-printed.result
+    (c.tell-printed.ensures.told spec store.ledger.opening store.ledger.log (histories_in shards) made)
+    (c.tell-printed.ensures.halted spec store.ledger.opening store.ledger.log (histories_in shards) made))
 
 pub returns-clause-command : goal.returns-clause-command
 returns-clause-command g c = λ is.
     no_usage (nat_lt 0 c.run_plans-store.result.store.ledger.failed)
-    (first_spent (histories_in c.run_plans-store.result.shards.items)) c.tell-told.result (sym c.ended_work.ensures.status ∙ is)
+    (first_spent (histories_in c.run_plans-store.result.shards.items)) c.tell-printed.result (sym c.ended_work.ensures.status ∙ is)
 
 pub returns-clause-no_read_fault : goal.returns-clause-no_read_fault
 returns-clause-no_read_fault g c =
     ap is_read_fault c.ended_work.ensures.status
-    ∙ no_read (nat_lt 0 c.run_plans-store.result.store.ledger.failed) (first_spent (histories_in c.run_plans-store.result.shards.items)) c.tell-told.result
+    ∙ no_read (nat_lt 0 c.run_plans-store.result.store.ledger.failed) (first_spent (histories_in c.run_plans-store.result.shards.items)) c.tell-printed.result
 
 pub returns-clause-writes : goal.returns-clause-writes
 returns-clause-writes g c =
     let is = ap is_write_fault c.ended_work.ensures.status
     ∙ at_write_end (nat_lt 0 c.run_plans-store.result.store.ledger.failed)
-    (first_spent (histories_in c.run_plans-store.result.shards.items)) c.tell-told.result in (
-      subst (λ (b : Bool). RoseWhere g.W.Sink.faults b c.args.sink.now c.tell-told.new.sink) (sym is) c.tell-told.ensures.counts,
-      c.tell-told.ensures.never_falls,
+    (first_spent (histories_in c.run_plans-store.result.shards.items)) c.tell-printed.result in (
+      subst (λ (b : Bool). RoseWhere g.W.Sink.faults b c.args.sink.now c.tell-printed.new.sink) (sym is) c.tell-printed.ensures.counts,
+      c.tell-printed.ensures.never_falls,
     )
 
 pub returns-clause-keeper_never_falls : goal.returns-clause-keeper_never_falls

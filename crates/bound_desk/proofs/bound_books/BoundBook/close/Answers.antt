@@ -18,7 +18,7 @@ invariant_of-self g c = (
 )
 
 pub returns-clause-over : goal.returns-clause-over
-returns-clause-over g c = λ told.
+returns-clause-over g c = λ over.
     let who = c.args.who in
     let shards = g.H.BoundName.word.shards in
     let book = c.self.inside.book.book in
@@ -32,5 +32,5 @@ returns-clause-over g c = λ told.
           (ap (λ b. b || false) (sym c.was.ensures ∙ w.if-was.true))
       | else-was w ↦
           close_is_over shards seen who book.present was w.is_writing.result sound c.end-closed.ensures.shows still.present w.is_writing.ensures.0
-          (ap (λ b. b || w.is_writing.result) (sym c.was.ensures ∙ w.if-was.false) ∙ sym w.result-is ∙ told)
+          (ap (λ b. b || w.is_writing.result) (sym c.was.ensures ∙ w.if-was.false) ∙ sym w.result-is ∙ over)
     ]

@@ -12,8 +12,8 @@ use Rattle.bound_desk.proofs.WriteLemmas.{quit_goes_on}
 use Rattle.bound_desk.proofs.WritingLemmas.{committed_is_ready, noted_is_ready, ready_goes_on}
 use Rattle.bound_desk.proofs.bound_books.BoundBook.commit.Goals as goal
 
-pub commit-told-requires-clause-granted : goal.commit-told-requires-clause-granted
-commit-told-requires-clause-granted g c =
+pub commit-answer-requires-clause-granted : goal.commit-answer-requires-clause-granted
+commit-answer-requires-clause-granted g c =
     held_are_seen g.H.HubName.opening g.H.BoundName.word.shards c.self.inside.book.book c.self.inside.pass.seen c.args.grants.now c.self.invariant.1
     (subst (λ (v : BoundBookView). All (Holds v.book.book) c.args.grants.now) (sym c.self.view_is) c.requires.held)
 
@@ -25,29 +25,29 @@ invariant_of-self g c =
     let before = g.H.BoundName.before in
     let shards = g.H.BoundName.word.shards in
     let book = c.self.inside.book.book in
-    let seen = c.commit-told.new.pass.seen in
-    let number = c.in-Ok-told.number in
-    let still = book_goes_on opening shards book c.self.inside.pass.seen seen c.commit-told.ensures.seen c.self.invariant.1 in
-    let shows = subst (λ r. IfOk r (ShowsCommit opening cap a.who a.txn a.grants.now seen)) c.in-Ok-told.is c.commit-told.ensures.ok in
-    let ready = ready_goes_on opening before shards book c.self.inside.pass.seen seen c.commit-told.ensures.seen c.self.invariant.2 in
-    let late = subst (λ r. IfOk r (λ n. length (commits_of c.self.inside.pass.seen.events) < n)) c.in-Ok-told.is c.commit-told.ensures.late in
+    let seen = c.commit-answer.new.pass.seen in
+    let number = c.in-Ok-answer.number in
+    let still = book_goes_on opening shards book c.self.inside.pass.seen seen c.commit-answer.ensures.seen c.self.invariant.1 in
+    let shows = subst (λ r. IfOk r (ShowsCommit opening cap a.who a.txn a.grants.now seen)) c.in-Ok-answer.is c.commit-answer.ensures.ok in
+    let ready = ready_goes_on opening before shards book c.self.inside.pass.seen seen c.commit-answer.ensures.seen c.self.invariant.2 in
+    let late = subst (λ r. IfOk r (λ n. length (commits_of c.self.inside.pass.seen.events) < n)) c.in-Ok-answer.is c.commit-answer.ensures.late in
     let copied = subst (λ (t : List Change). ShowsCommit opening cap a.who t a.grants.now seen number) (sym c.in-Ok.ensures) shows in
     let over = commit_is_over opening cap a.who a.txn a.grants.now seen number shows in (
-      c.commit-told.ensures.word,
+      c.commit-answer.ensures.word,
       subst (λ b. IsBoundBook opening shards b seen) (sym c.note_commit.ensures)
           (noted_is_bound opening shards a.who (with_commit number c.in-Ok.copy) book seen still
           (λ is. committed_is_bound opening shards book seen a.who number c.in-Ok.copy over is still)),
       subst (λ b. IsReadyToWrite opening before shards b seen) (sym c.note_commit.ensures)
           (noted_is_ready opening before shards a.who (with_commit number c.in-Ok.copy) book seen ready
-          (λ is. committed_is_ready opening before shards book c.self.inside.pass.seen seen cap a.who c.in-Ok.copy a.grants.now number c.commit-told.ensures.seen late copied
-          c.commit-told.ensures.true_so_far is c.self.invariant.2)),
-      quit_goes_on c.self.inside.quit c.self.inside.pass.seen seen c.commit-told.ensures.seen c.self.invariant.3,
+          (λ is. committed_is_ready opening before shards book c.self.inside.pass.seen seen cap a.who c.in-Ok.copy a.grants.now number c.commit-answer.ensures.seen late copied
+          c.commit-answer.ensures.true_so_far is c.self.invariant.2)),
+      quit_goes_on c.self.inside.quit c.self.inside.pass.seen seen c.commit-answer.ensures.seen c.self.invariant.3,
     )
 
-pub invariant_of-self-in-Err-told : goal.invariant_of-self-in-Err-told
-invariant_of-self-in-Err-told g c = (
-  c.commit-told.ensures.word,
-  book_goes_on g.H.HubName.opening g.H.BoundName.word.shards c.self.inside.book.book c.self.inside.pass.seen c.commit-told.new.pass.seen c.commit-told.ensures.seen c.self.invariant.1,
-  ready_goes_on g.H.HubName.opening g.H.BoundName.before g.H.BoundName.word.shards c.self.inside.book.book c.self.inside.pass.seen c.commit-told.new.pass.seen c.commit-told.ensures.seen c.self.invariant.2,
-  quit_goes_on c.self.inside.quit c.self.inside.pass.seen c.commit-told.new.pass.seen c.commit-told.ensures.seen c.self.invariant.3,
+pub invariant_of-self-in-Err-answer : goal.invariant_of-self-in-Err-answer
+invariant_of-self-in-Err-answer g c = (
+  c.commit-answer.ensures.word,
+  book_goes_on g.H.HubName.opening g.H.BoundName.word.shards c.self.inside.book.book c.self.inside.pass.seen c.commit-answer.new.pass.seen c.commit-answer.ensures.seen c.self.invariant.1,
+  ready_goes_on g.H.HubName.opening g.H.BoundName.before g.H.BoundName.word.shards c.self.inside.book.book c.self.inside.pass.seen c.commit-answer.new.pass.seen c.commit-answer.ensures.seen c.self.invariant.2,
+  quit_goes_on c.self.inside.quit c.self.inside.pass.seen c.commit-answer.new.pass.seen c.commit-answer.ensures.seen c.self.invariant.3,
 )

@@ -42,7 +42,7 @@ returns-clause-belongs g c =
     let shard = a.shard.now.shard in
     let past = past_of shard in
     ok_gives _ (IsQuarantineOf a.who a.key a.mode) c.quarantine.result
-    (λ told shows. quarantine_belongs shard.terms past a.key a.who a.mode _ a.now told shows) c.quarantine.ensures.shows
+    (λ answer shows. quarantine_belongs shard.terms past a.key a.who a.mode _ a.now answer shows) c.quarantine.ensures.shows
 
 pub returns-clause-none_left : goal.returns-clause-none_left
 returns-clause-none_left g c = none_is_left c.args.shard.now.shard c.args.key _ c.quarantine.result c.quarantine.ensures.refusal

@@ -24,7 +24,7 @@ returns-clause-last g c =
     let before = g.H.BoundName.before in
     let shards = g.H.BoundName.word.shards in
     let seen = c.raise.new.pass.seen in
-    ok_gives (IsBrought opening before shards a.grant (entry a.grant.key (past_of shard)) seen) _ c.raise.result (λ told it. it.last)
+    ok_gives (IsBrought opening before shards a.grant (entry a.grant.key (past_of shard)) seen) _ c.raise.result (λ answer it. it.last)
     (answer_brought opening before shards (is_out shard a.grant) (past_of shard) a.grant shard.terms.no seen (is_some (entry a.grant.key (past_of c.raise.new.self.shard))) c.raise.result
     c.requires.place c.raise.ensures.shows c.raise.ensures.last c.raise.ensures.old (λ e. (c.raise.ensures.unknown e).1))
 
@@ -36,7 +36,7 @@ returns-clause-old g c =
     let before = g.H.BoundName.before in
     let shards = g.H.BoundName.word.shards in
     let seen = c.raise.new.pass.seen in
-    ok_gives (IsBrought opening before shards a.grant (entry a.grant.key (past_of shard)) seen) _ c.raise.result (λ told it. it.held)
+    ok_gives (IsBrought opening before shards a.grant (entry a.grant.key (past_of shard)) seen) _ c.raise.result (λ answer it. it.held)
     (answer_brought opening before shards (is_out shard a.grant) (past_of shard) a.grant shard.terms.no seen (is_some (entry a.grant.key (past_of c.raise.new.self.shard))) c.raise.result
     c.requires.place c.raise.ensures.shows c.raise.ensures.last c.raise.ensures.old (λ e. (c.raise.ensures.unknown e).1))
 
@@ -48,7 +48,7 @@ returns-clause-brings g c =
     let before = g.H.BoundName.before in
     let shards = g.H.BoundName.word.shards in
     let seen = c.raise.new.pass.seen in
-    ok_gives (IsBrought opening before shards a.grant (entry a.grant.key (past_of shard)) seen) _ c.raise.result (λ told it. it.brings)
+    ok_gives (IsBrought opening before shards a.grant (entry a.grant.key (past_of shard)) seen) _ c.raise.result (λ answer it. it.brings)
     (answer_brought opening before shards (is_out shard a.grant) (past_of shard) a.grant shard.terms.no seen (is_some (entry a.grant.key (past_of c.raise.new.self.shard))) c.raise.result
     c.requires.place c.raise.ensures.shows c.raise.ensures.last c.raise.ensures.old (λ e. (c.raise.ensures.unknown e).1))
 
@@ -60,7 +60,7 @@ returns-clause-alone g c =
     let before = g.H.BoundName.before in
     let shards = g.H.BoundName.word.shards in
     let seen = c.raise.new.pass.seen in
-    ok_gives (IsBrought opening before shards a.grant (entry a.grant.key (past_of shard)) seen) _ c.raise.result (λ told it. it.alone)
+    ok_gives (IsBrought opening before shards a.grant (entry a.grant.key (past_of shard)) seen) _ c.raise.result (λ answer it. it.alone)
     (answer_brought opening before shards (is_out shard a.grant) (past_of shard) a.grant shard.terms.no seen (is_some (entry a.grant.key (past_of c.raise.new.self.shard))) c.raise.result
     c.requires.place c.raise.ensures.shows c.raise.ensures.last c.raise.ensures.old (λ e. (c.raise.ensures.unknown e).1))
 
@@ -72,6 +72,6 @@ returns-clause-belongs g c =
     let before = g.H.BoundName.before in
     let shards = g.H.BoundName.word.shards in
     let seen = c.raise.new.pass.seen in
-    ok_gives (IsBrought opening before shards a.grant (entry a.grant.key (past_of shard)) seen) _ c.raise.result (λ told it. it.belongs)
+    ok_gives (IsBrought opening before shards a.grant (entry a.grant.key (past_of shard)) seen) _ c.raise.result (λ answer it. it.belongs)
     (answer_brought opening before shards (is_out shard a.grant) (past_of shard) a.grant shard.terms.no seen (is_some (entry a.grant.key (past_of c.raise.new.self.shard))) c.raise.result
     c.requires.place c.raise.ensures.shows c.raise.ensures.last c.raise.ensures.old (λ e. (c.raise.ensures.unknown e).1))

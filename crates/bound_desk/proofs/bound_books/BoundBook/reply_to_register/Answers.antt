@@ -5,4 +5,4 @@ use Rattle.bound_desk.proofs.bound_books.BoundBook.reply_to_register.Goals as go
 pub returns-in-Ok-clause-first : goal.returns-in-Ok-clause-first
 returns-in-Ok-clause-first g c =
     let last = c.in-Ok.ensures.last in
-    quarantine_is_first g.H.HubName.terms g.H.BoundName.before g.H.BoundName.word.shards c.args.key c.args.who Invalidate _ c.in-Ok.told last.0 c.quarantine.new.self.seen last.1
+    quarantine_is_first g.H.HubName.terms g.H.BoundName.before g.H.BoundName.word.shards c.args.key c.args.who Invalidate _ c.in-Ok.answer last.0 c.quarantine.new.self.seen last.1

@@ -1,7 +1,7 @@
 use Rattle.std.proofs.Common.{rules, Some, ◌≡◌, Bool, true, Ok, List, inr, [], ◌∷◌, ◌++◌, refl, sym, ap, subst, ◌∙◌}
 use Rattle.rows_model.specs.declared.keys.Sid.{Sid}
 use Rattle.expiry_sweeper.specs.Follows.{shards_of}
-use Rattle.session_client.specs.Desks.{Call, Asked, IsFirst}
+use Rattle.session_client.specs.Desks.{Exchange, Asked, IsFirst}
 use Rattle.log_word.specs.Events.{is_over}
 use Rattle.log_word.specs.Steps.{IsBeginning}
 use Rattle.log_word.proofs.ViewLemmas.{beginning_same, beginning_trans}
@@ -14,20 +14,20 @@ use Rattle.bound_desk.specs.Bound.{BoundDeskView}
 use Rattle.bound_desk.specs.Safe.{drop_reply, IsSafelyMade, MadeBelongs}
 use Rattle.bound_desk.proofs.RecordLemmas.{asked_since, first_has_key, not_back, not_dropped, not_told, one_is, record_as_asked, shows_where_fresh}
 use Rattle.bound_desk.proofs.desks.BoundDeskDesk.call.Goals.{in-Some, in-None}
-use Rattle.bound_desk.proofs.desks.BoundDeskDesk.call.Goals.{in-Ok-One+in-Some-key_of, in-Ok-One+in-None-key_of, in-Ok-One+in-None-2, in-Ok-EndDrop+then-is_over, in-Ok-EndDrop+else-is_over, in-Ok-Told, in-Err}
+use Rattle.bound_desk.proofs.desks.BoundDeskDesk.call.Goals.{in-Ok-One+in-Some-key_of, in-Ok-One+in-None-key_of, in-Ok-One+in-None-2, in-Ok-EndDrop+then-is_over, in-Ok-EndDrop+else-is_over, in-Ok-Answered, in-Err}
 use Rattle.bound_desk.proofs.desks.BoundDeskDesk.call.Goals as goal
 
-pub drop_value-told-requires-clause-over : goal.drop_value-told-requires-clause-over
-drop_value-told-requires-clause-over g c =
+pub drop_value-answer-requires-clause-over : goal.drop_value-answer-requires-clause-over
+drop_value-answer-requires-clause-over g c =
     let made = c.in-Ok-EndDrop in
-    let own = subst (IsSafelyMade c.self.inside.told.book.book c.args.who) made.field-0-is made.ensures.safe in
+    let own = subst (IsSafelyMade c.self.inside.notes.book.book c.args.who) made.field-0-is made.ensures.safe in
     inr (subst (λ (s : Sid). is_over s.number c.close-is_over.new.self.seen.events ≡ true) own (c.close-is_over.ensures.over c.if-is_over.true))
 
 pub invariant_of-self : goal.invariant_of-self
 invariant_of-self g c =
     let who = c.args.who in
     let request = c.args.request in
-    let told = c.match-reply_to_hit.reply in
+    let reply = c.match-reply_to_hit.reply in
     let old = c.self.inside in
     let terms = g.H.HubName.terms in
     let before = g.H.BoundName.before in
@@ -35,20 +35,20 @@ invariant_of-self g c =
     let now = c.asked-self-inside.result in
     let is = c.asked-self-inside.ensures who request (c.and-asked.ensures ∙ ap (λ l. l ++ (who, request) ∷ []) c.new.ensures) in
     let Fits : (s : Inside g.row.K.Denot g.row.H.Denot g.row.C.Denot g.row.G.Denot g.row.R.Denot) → Type 0 = λ s.
-    (shards_of s.sweeper ≡ s.hub.now) × IsRecordSeen terms before shards s.worker now s.told.seen × IsFreshBook now s.told.book.book in
+    (shards_of s.sweeper ≡ s.hub.now) × IsRecordSeen terms before shards s.worker now s.notes.seen × IsFreshBook now s.notes.book.book in
     let fits : (s : Inside g.row.K.Denot g.row.H.Denot g.row.C.Denot g.row.G.Denot g.row.R.Denot) → c.match-reply_to_hit.self-inside ≡ s
-    → shards_of s.sweeper ≡ s.hub.now → s.worker ≡ old.worker → s.calls ≡ old.calls → IsBeginning old.told.seen s.told.seen
-    → ((writes : Bool) → old.told.book.book ≡ first_book who writes → IsFirst writes request → ShowsFirst terms before shards who told s.told.seen)
+    → shards_of s.sweeper ≡ s.hub.now → s.worker ≡ old.worker → s.calls ≡ old.calls → IsBeginning old.notes.seen s.notes.seen
+    → ((writes : Bool) → old.notes.book.book ≡ first_book who writes → IsFirst writes request → ShowsFirst terms before shards who reply s.notes.seen)
     → Fits c.match-reply_to_hit.self-inside =
     λ s at sweep worker calls goes shows.
-    let here : now ≡ Asked who request told ∷ old.calls =
-    is ∙ ap (λ (x : Inside g.row.K.Denot g.row.H.Denot g.row.C.Denot g.row.G.Denot g.row.R.Denot). Asked who request told ∷ x.calls) at ∙ ap (λ (l : List Call). Asked who request told ∷ l) calls in
+    let here : now ≡ Asked who request reply ∷ old.calls =
+    is ∙ ap (λ (x : Inside g.row.K.Denot g.row.H.Denot g.row.C.Denot g.row.G.Denot g.row.R.Denot). Asked who request reply ∷ x.calls) at ∙ ap (λ (l : List Exchange). Asked who request reply ∷ l) calls in
     subst Fits (sym at) (
       sweep,
-      subst (λ n. IsRecordSeen terms before shards n now s.told.seen) (sym worker)
-          (record_as_asked terms before shards old.worker old.calls now old.told.seen s.told.seen who request told here goes
-          (shows_where_fresh terms before shards old.calls old.told.book.book s.told.seen who request told c.self.invariant.2 shows) c.self.invariant.1),
-      asked_since now old.calls who request told s.told.book.book here,
+      subst (λ n. IsRecordSeen terms before shards n now s.notes.seen) (sym worker)
+          (record_as_asked terms before shards old.worker old.calls now old.notes.seen s.notes.seen who request reply here goes
+          (shows_where_fresh terms before shards old.calls old.notes.book.book s.notes.seen who request reply c.self.invariant.2 shows) c.self.invariant.1),
+      asked_since now old.calls who request reply s.notes.book.book here,
     ) in
     elim c.match-reply_to_hit.branch [
       | in-Some w ↦
@@ -57,7 +57,7 @@ invariant_of-self g c =
       | in-None w ↦
           let got = w.reply_to_get-reply in
           fits _ w.self-inside-is (w.turn_to_due.ensures ∙ c.self.invariant.0) refl refl
-          (beginning_trans old.told.seen c.reply_to_hit.new.self.seen got.new.self.seen c.reply_to_hit.ensures.seen got.ensures.seen)
+          (beginning_trans old.notes.seen c.reply_to_hit.new.self.seen got.new.self.seen c.reply_to_hit.ensures.seen got.ensures.seen)
           (λ writes fresh first. subst (λ r. ShowsFirst terms before shards who r got.new.self.seen) (sym w.reply-is) got.ensures.first)
     ]
 
@@ -65,7 +65,7 @@ pub invariant_of-self-2 : goal.invariant_of-self-2
 invariant_of-self-2 g c =
     let who = c.args.who in
     let request = c.args.request in
-    let told = c.match-made.reply in
+    let reply = c.match-made.reply in
     let old = c.self.inside in
     let terms = g.H.HubName.terms in
     let before = g.H.BoundName.before in
@@ -74,32 +74,32 @@ invariant_of-self-2 g c =
     let is = c.asked-self-inside-2.ensures who request (c.and-asked.ensures ∙ ap (λ l. l ++ (who, request) ∷ []) c.new.ensures) in
     let asks = c.made.ensures.first in
     let Fits : (s : Inside g.row.K.Denot g.row.H.Denot g.row.C.Denot g.row.G.Denot g.row.R.Denot) → Type 0 = λ s.
-    (shards_of s.sweeper ≡ s.hub.now) × IsRecordSeen terms before shards s.worker now s.told.seen × IsFreshBook now s.told.book.book in
+    (shards_of s.sweeper ≡ s.hub.now) × IsRecordSeen terms before shards s.worker now s.notes.seen × IsFreshBook now s.notes.book.book in
     let fits : (s : Inside g.row.K.Denot g.row.H.Denot g.row.C.Denot g.row.G.Denot g.row.R.Denot) → c.match-made.self-inside ≡ s
-    → shards_of s.sweeper ≡ s.hub.now → s.worker ≡ old.worker → s.calls ≡ old.calls → IsBeginning old.told.seen s.told.seen
-    → ((writes : Bool) → old.told.book.book ≡ first_book who writes → IsFirst writes request → ShowsFirst terms before shards who told s.told.seen)
+    → shards_of s.sweeper ≡ s.hub.now → s.worker ≡ old.worker → s.calls ≡ old.calls → IsBeginning old.notes.seen s.notes.seen
+    → ((writes : Bool) → old.notes.book.book ≡ first_book who writes → IsFirst writes request → ShowsFirst terms before shards who reply s.notes.seen)
     → Fits c.match-made.self-inside =
     λ s at sweep worker calls goes shows.
-    let here : now ≡ Asked who request told ∷ old.calls =
-    is ∙ ap (λ (x : Inside g.row.K.Denot g.row.H.Denot g.row.C.Denot g.row.G.Denot g.row.R.Denot). Asked who request told ∷ x.calls) at ∙ ap (λ (l : List Call). Asked who request told ∷ l) calls in
+    let here : now ≡ Asked who request reply ∷ old.calls =
+    is ∙ ap (λ (x : Inside g.row.K.Denot g.row.H.Denot g.row.C.Denot g.row.G.Denot g.row.R.Denot). Asked who request reply ∷ x.calls) at ∙ ap (λ (l : List Exchange). Asked who request reply ∷ l) calls in
     subst Fits (sym at) (
       sweep,
-      subst (λ n. IsRecordSeen terms before shards n now s.told.seen) (sym worker)
-          (record_as_asked terms before shards old.worker old.calls now old.told.seen s.told.seen who request told here goes
-          (shows_where_fresh terms before shards old.calls old.told.book.book s.told.seen who request told c.self.invariant.2 shows) c.self.invariant.1),
-      asked_since now old.calls who request told s.told.book.book here,
+      subst (λ n. IsRecordSeen terms before shards n now s.notes.seen) (sym worker)
+          (record_as_asked terms before shards old.worker old.calls now old.notes.seen s.notes.seen who request reply here goes
+          (shows_where_fresh terms before shards old.calls old.notes.book.book s.notes.seen who request reply c.self.invariant.2 shows) c.self.invariant.1),
+      asked_since now old.calls who request reply s.notes.book.book here,
     ) in
     elim c.match-made.branch [
       | in-Ok-One+in-Some-key_of w ↦
-          let shows : (writes : Bool) → old.told.book.book ≡ first_book who writes → IsFirst writes request
-          → ShowsFirst terms before shards who told w.on_shard-reply.new.self.seen =
+          let shows : (writes : Bool) → old.notes.book.book ≡ first_book who writes → IsFirst writes request
+          → ShowsFirst terms before shards who reply w.on_shard-reply.new.self.seen =
           λ writes fresh first.
           subst (λ r. ShowsFirst terms before shards who r w.on_shard-reply.new.self.seen) (sym w.reply-is)
           (w.on_shard-reply.ensures.first writes
           (subst (IsFirst writes) (one_is request w.in-Ok-One.request c.made.result (asks writes fresh first) (w.in-Ok-One.is ∙ ap (λ m. Ok m) w.in-Ok-One.field-0-is)) first)) in
           fits _ w.self-inside-is c.self.invariant.0 refl refl w.on_shard-reply.ensures.seen shows
       | in-Ok-One+in-None-key_of w ↦
-          fits _ w.self-inside-is c.self.invariant.0 refl refl (beginning_same old.told.seen)
+          fits _ w.self-inside-is c.self.invariant.0 refl refl (beginning_same old.notes.seen)
           (λ writes fresh first. absurd (first_has_key writes w.in-Ok-One.request
           (subst (IsFirst writes) (one_is request w.in-Ok-One.request c.made.result (asks writes fresh first) (w.in-Ok-One.is ∙ ap (λ m. Ok m) w.in-Ok-One.field-0-is)) first)
           (sym w.key_of.ensures.key ∙ w.in-None-key_of.is)))
@@ -110,16 +110,16 @@ invariant_of-self-2 g c =
           (sym w.key_of.ensures.key ∙ w.in-None-key_of.is)))
       | in-Ok-EndDrop+then-is_over w ↦
           fits _ w.self-inside-is c.self.invariant.0 refl refl
-          (beginning_trans old.told.seen w.close-is_over.new.self.seen w.drop_value-told.new.self.seen w.close-is_over.ensures.seen w.drop_value-told.ensures.seen)
+          (beginning_trans old.notes.seen w.close-is_over.new.self.seen w.drop_value-answer.new.self.seen w.close-is_over.ensures.seen w.drop_value-answer.ensures.seen)
           (λ writes fresh first. absurd (not_dropped _ _ request w.in-Ok-EndDrop.field-0 c.made.result w.in-Ok-EndDrop.is w.in-Ok-EndDrop.field-0-is (asks writes fresh first)))
       | in-Ok-EndDrop+else-is_over w ↦
           fits _ w.self-inside-is c.self.invariant.0 refl refl w.close-is_over.ensures.seen
           (λ writes fresh first. absurd (not_dropped _ _ request w.in-Ok-EndDrop.field-0 c.made.result w.in-Ok-EndDrop.is w.in-Ok-EndDrop.field-0-is (asks writes fresh first)))
-      | in-Ok-Told w ↦
-          fits _ w.self-inside-is c.self.invariant.0 refl refl (beginning_same old.told.seen)
-          (λ writes fresh first. absurd (not_told _ request w.in-Ok-Told.field-0 c.made.result w.in-Ok-Told.is w.in-Ok-Told.field-0-is (asks writes fresh first)))
+      | in-Ok-Answered w ↦
+          fits _ w.self-inside-is c.self.invariant.0 refl refl (beginning_same old.notes.seen)
+          (λ writes fresh first. absurd (not_told _ request w.in-Ok-Answered.field-0 c.made.result w.in-Ok-Answered.is w.in-Ok-Answered.field-0-is (asks writes fresh first)))
       | in-Err w ↦
-          fits _ w.self-inside-is c.self.invariant.0 refl refl (beginning_same old.told.seen)
+          fits _ w.self-inside-is c.self.invariant.0 refl refl (beginning_same old.notes.seen)
           (λ writes fresh first. absurd (not_back w.in-Err.request request c.made.result w.in-Err.is (asks writes fresh first)))
     ]
 
@@ -127,7 +127,7 @@ pub returns : goal.returns
 returns g c =
     let who = c.args.who in
     let request = c.args.request in
-    let told = c.match-made.reply in
+    let reply = c.match-made.reply in
     let old = c.self.inside in
     let is = c.asked-self-inside-2.ensures who request (c.and-asked.ensures ∙ ap (λ l. l ++ (who, request) ∷ []) c.new.ensures) in
     let kept : c.match-made.self-inside.calls ≡ old.calls = elim c.match-made.branch [
@@ -136,7 +136,7 @@ returns g c =
       | in-Ok-One+in-None-2 w ↦ ap (λ (x : Inside g.row.K.Denot g.row.H.Denot g.row.C.Denot g.row.G.Denot g.row.R.Denot). x.calls) w.self-inside-is
       | in-Ok-EndDrop+then-is_over w ↦ ap (λ (x : Inside g.row.K.Denot g.row.H.Denot g.row.C.Denot g.row.G.Denot g.row.R.Denot). x.calls) w.self-inside-is
       | in-Ok-EndDrop+else-is_over w ↦ ap (λ (x : Inside g.row.K.Denot g.row.H.Denot g.row.C.Denot g.row.G.Denot g.row.R.Denot). x.calls) w.self-inside-is
-      | in-Ok-Told w ↦ ap (λ (x : Inside g.row.K.Denot g.row.H.Denot g.row.C.Denot g.row.G.Denot g.row.R.Denot). x.calls) w.self-inside-is
+      | in-Ok-Answered w ↦ ap (λ (x : Inside g.row.K.Denot g.row.H.Denot g.row.C.Denot g.row.G.Denot g.row.R.Denot). x.calls) w.self-inside-is
       | in-Err w ↦ ap (λ (x : Inside g.row.K.Denot g.row.H.Denot g.row.C.Denot g.row.G.Denot g.row.R.Denot). x.calls) w.self-inside-is
     ] in
     let same : c.match-made.self-inside.worker ≡ old.worker = elim c.match-made.branch [
@@ -145,10 +145,10 @@ returns g c =
       | in-Ok-One+in-None-2 w ↦ ap (λ (x : Inside g.row.K.Denot g.row.H.Denot g.row.C.Denot g.row.G.Denot g.row.R.Denot). x.worker) w.self-inside-is
       | in-Ok-EndDrop+then-is_over w ↦ ap (λ (x : Inside g.row.K.Denot g.row.H.Denot g.row.C.Denot g.row.G.Denot g.row.R.Denot). x.worker) w.self-inside-is
       | in-Ok-EndDrop+else-is_over w ↦ ap (λ (x : Inside g.row.K.Denot g.row.H.Denot g.row.C.Denot g.row.G.Denot g.row.R.Denot). x.worker) w.self-inside-is
-      | in-Ok-Told w ↦ ap (λ (x : Inside g.row.K.Denot g.row.H.Denot g.row.C.Denot g.row.G.Denot g.row.R.Denot). x.worker) w.self-inside-is
+      | in-Ok-Answered w ↦ ap (λ (x : Inside g.row.K.Denot g.row.H.Denot g.row.C.Denot g.row.G.Denot g.row.R.Denot). x.worker) w.self-inside-is
       | in-Err w ↦ ap (λ (x : Inside g.row.K.Denot g.row.H.Denot g.row.C.Denot g.row.G.Denot g.row.R.Denot). x.worker) w.self-inside-is
     ] in
-    let belongs : Belongs who request told = elim c.match-made.branch [
+    let belongs : Belongs who request reply = elim c.match-made.branch [
       | in-Ok-One+in-Some-key_of w ↦
           subst (Belongs who request) (sym w.reply-is)
           (subst (MadeBelongs who request) w.in-Ok-One.field-0-is w.in-Ok-One.ensures.belongs w.on_shard-reply.result w.on_shard-reply.ensures.belongs)
@@ -158,19 +158,19 @@ returns g c =
           (subst (MadeBelongs who request) w.in-Ok-One.field-0-is w.in-Ok-One.ensures.belongs w.at_store.result w.at_store.ensures.belongs)
       | in-Ok-EndDrop+then-is_over w ↦
           subst (Belongs who request)
-          (sym (w.reply-is ∙ w.dropped.ensures ∙ ap (λ r. drop_reply r w.drop_value-told.result) c.is_raise-raises.ensures))
-          (subst (MadeBelongs who request) w.in-Ok-EndDrop.field-0-is w.in-Ok-EndDrop.ensures.belongs w.drop_value-told.result)
+          (sym (w.reply-is ∙ w.dropped.ensures ∙ ap (λ r. drop_reply r w.drop_value-answer.result) c.is_raise-raises.ensures))
+          (subst (MadeBelongs who request) w.in-Ok-EndDrop.field-0-is w.in-Ok-EndDrop.ensures.belongs w.drop_value-answer.result)
       | in-Ok-EndDrop+else-is_over w ↦
           subst (Belongs who request)
           (sym (w.reply-is ∙ w.dropped-else-is_over.ensures ∙ ap (λ r. drop_reply r Rel.Gone) c.is_raise-raises.ensures))
           (subst (MadeBelongs who request) w.in-Ok-EndDrop.field-0-is w.in-Ok-EndDrop.ensures.belongs Rel.Gone)
-      | in-Ok-Told w ↦ search rules
+      | in-Ok-Answered w ↦ search rules
       | in-Err w ↦ search rules
     ] in
     record {
       belongs = belongs;
       begun = refl;
-      recorded = ap (λ l. Some l) (is ∙ ap (λ (l : List Call). Asked who request told ∷ l) (kept ∙ ap (λ (v : BoundDeskView). v.calls) c.self.view_is));
+      recorded = ap (λ l. Some l) (is ∙ ap (λ (l : List Exchange). Asked who request reply ∷ l) (kept ∙ ap (λ (v : BoundDeskView). v.calls) c.self.view_is));
       tends = search rules;
       worker = ap (λ n. Some n) (same ∙ ap (λ (v : BoundDeskView). v.worker) c.self.view_is);
       first = search rules;

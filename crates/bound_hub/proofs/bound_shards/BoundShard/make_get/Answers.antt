@@ -15,12 +15,12 @@ pub has_entry-has-requires : goal.has_entry-has-requires
 has_entry-has-requires g c =
     let shard = c.self.inside.shard in
     let key = c.args.key in
-    let told = c.in_ok-got.ensures in
+    let made = c.in_ok-got.ensures in
     let home = subst (λ (v : BoundShardView). shard_of key v.shard.terms.count ≡ v.shard.terms.no) (sym c.self.view_is) c.requires.home in
     record {
       hit = λ value stamp is.
           hit_is_there g.H.BoundName.word g.H.HubName.opening g.H.BoundName.before shard c.self.inside.pass c.self.invariant.2
-          c.args.key c.args.who c.args.floor c.args.now c.in_ok-got.got home told.shows c.get_at_home.new.self told.step value stamp is;
+          c.args.key c.args.who c.args.floor c.args.now c.in_ok-got.got home made.shows c.get_at_home.new.self made.step value stamp is;
     }
 
 pub tell-note-requires-clause-borne_out : goal.tell-note-requires-clause-borne_out
@@ -28,30 +28,30 @@ tell-note-requires-clause-borne_out g c =
     let shard = c.self.inside.shard in
     let pass = c.self.inside.pass in
     let key = c.args.key in
-    let told = c.in_ok-got.ensures in
+    let made = c.in_ok-got.ensures in
     let answer = c.in_ok-got.got in
     let step = get_step shard.terms (past_of shard) key c.args.who c.args.floor c.args.now in
     let home = subst (λ (v : BoundShardView). shard_of key v.shard.terms.count ≡ v.shard.terms.no) (sym c.self.view_is) c.requires.home in
     let bound = c.self.invariant.2 in
     subst (IsBorneOut pass.seen.events) (sym c.got_short-short.ensures)
-    (got_is_borne_out g.H.BoundName.word g.H.HubName.opening g.H.BoundName.before shard pass bound key c.args.who c.args.floor c.args.now answer home told.shows c.has_entry-has.result)
+    (got_is_borne_out g.H.BoundName.word g.H.HubName.opening g.H.BoundName.before shard pass bound key c.args.who c.args.floor c.args.now answer home made.shows c.has_entry-has.result)
 
 pub invariant_of-self-2 : goal.invariant_of-self-2
 invariant_of-self-2 g c =
     let shard = c.self.inside.shard in
     let pass = c.self.inside.pass in
     let key = c.args.key in
-    let told = c.in_ok-got.ensures in
+    let made = c.in_ok-got.ensures in
     let answer = c.in_ok-got.got in
     let step = get_step shard.terms (past_of shard) key c.args.who c.args.floor c.args.now in
     let home = subst (λ (v : BoundShardView). shard_of key v.shard.terms.count ≡ v.shard.terms.no) (sym c.self.view_is) c.requires.home in
     let bound = c.self.invariant.2 in
     let has = c.has_entry-has.ensures in
     let seen = c.tell-note.ensures.seen ∙ ap (λ (x : Short). with_step pass.shard x pass.seen) c.got_short-short.ensures in (
-      subst (λ (v : ShardView). IsNamed g.H.HubName.terms v) (sym told.step) c.self.invariant.0,
-      subst (λ (v : ShardView). IsTokenOf v.terms.no c.self.inside.token.parts c.self.inside.token.amount) (sym told.step) c.self.invariant.1,
+      subst (λ (v : ShardView). IsNamed g.H.HubName.terms v) (sym made.step) c.self.invariant.0,
+      subst (λ (v : ShardView). IsTokenOf v.terms.no c.self.inside.token.parts c.self.inside.token.amount) (sym made.step) c.self.invariant.1,
       bound_with_got g.H.BoundName.word g.H.HubName.opening g.H.BoundName.before shard pass bound key c.args.who c.args.floor c.args.now answer home
-          told.shows c.sound.ensures c.get_at_home.new.self c.tell-note.new.self c.has_entry-has.result told.step has c.tell-note.ensures.word c.tell-note.ensures.shard seen,
+          made.shows c.sound.ensures c.get_at_home.new.self c.tell-note.new.self c.has_entry-has.result made.step has c.tell-note.ensures.word c.tell-note.ensures.shard seen,
     )
 
 pub returns-clause-held : goal.returns-clause-held
@@ -59,7 +59,7 @@ returns-clause-held g c =
     let shard = c.self.inside.shard in
     let pass = c.self.inside.pass in
     let key = c.args.key in
-    let told = c.in_ok-got.ensures in
+    let made = c.in_ok-got.ensures in
     let answer = c.in_ok-got.got in
     let step = get_step shard.terms (past_of shard) key c.args.who c.args.floor c.args.now in
     let home = subst (λ (v : BoundShardView). shard_of key v.shard.terms.count ≡ v.shard.terms.no) (sym c.self.view_is) c.requires.home in
@@ -68,4 +68,4 @@ returns-clause-held g c =
     let seen = c.tell-note.ensures.seen ∙ ap (λ (x : Short). with_step pass.shard x pass.seen) c.got_short-short.ensures in
     subst (λ (v : BoundShardView). IsGotHeld g.H.HubName.opening (g.H.BoundName.before v.shard.terms.no) v.shard.terms.no c.tell-note.new.self.seen key answer) c.self.view_is
     (got_is_held g.H.BoundName.word g.H.HubName.opening g.H.BoundName.before shard pass bound key c.args.who c.args.floor c.args.now answer home
-    told.shows c.sound.ensures c.get_at_home.new.self c.tell-note.new.self c.has_entry-has.result told.step has c.tell-note.ensures.word c.tell-note.ensures.shard seen)
+    made.shows c.sound.ensures c.get_at_home.new.self c.tell-note.new.self c.has_entry-has.result made.step has c.tell-note.ensures.word c.tell-note.ensures.shard seen)

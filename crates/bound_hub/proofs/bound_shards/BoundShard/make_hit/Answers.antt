@@ -17,10 +17,10 @@ has_entry-has-requires g c =
     let shard = c.self.inside.shard in
     let key = c.args.key in
     let step = get_step shard.terms (past_of shard) key c.args.who c.args.floor 0 in
-    let told = c.in-Ok-Some.ensures in
-    let shows = subst (λ o. IfSome o (ShowsGot (get_step shard.terms (past_of shard) c.args.key c.args.who c.args.floor 0))) c.in-Ok-Some.field-0-is (told.shows 0) in
+    let ensured = c.in-Ok-Some.ensures in
+    let shows = subst (λ o. IfSome o (ShowsGot (get_step shard.terms (past_of shard) c.args.key c.args.who c.args.floor 0))) c.in-Ok-Some.field-0-is (ensured.shows 0) in
     let made = subst (λ o. IfSome o (λ got. c.get_hit.new.self ≡ stepped (rolled shard) (get_step shard.terms (past_of shard) c.args.key c.args.who c.args.floor 0)))
-    c.in-Ok-Some.field-0-is (told.step 0) in
+    c.in-Ok-Some.field-0-is (ensured.step 0) in
     let home = subst (λ (v : BoundShardView). shard_of key v.shard.terms.count ≡ v.shard.terms.no) (sym c.self.view_is) c.requires.home in
     record {
       hit = λ value stamp is.
@@ -33,10 +33,10 @@ tell-note-requires-clause-borne_out g c =
     let shard = c.self.inside.shard in
     let pass = c.self.inside.pass in
     let key = c.args.key in
-    let told = c.in-Ok-Some.ensures in
-    let shows = subst (λ o. IfSome o (ShowsGot (get_step shard.terms (past_of shard) c.args.key c.args.who c.args.floor 0))) c.in-Ok-Some.field-0-is (told.shows 0) in
+    let ensured = c.in-Ok-Some.ensures in
+    let shows = subst (λ o. IfSome o (ShowsGot (get_step shard.terms (past_of shard) c.args.key c.args.who c.args.floor 0))) c.in-Ok-Some.field-0-is (ensured.shows 0) in
     let made = subst (λ o. IfSome o (λ got. c.get_hit.new.self ≡ stepped (rolled shard) (get_step shard.terms (past_of shard) c.args.key c.args.who c.args.floor 0)))
-    c.in-Ok-Some.field-0-is (told.step 0) in
+    c.in-Ok-Some.field-0-is (ensured.step 0) in
     let answer = c.in-Ok-Some.got in
     let step = get_step shard.terms (past_of shard) key c.args.who c.args.floor 0 in
     let home = subst (λ (v : BoundShardView). shard_of key v.shard.terms.count ≡ v.shard.terms.no) (sym c.self.view_is) c.requires.home in
@@ -49,10 +49,10 @@ invariant_of-self-2 g c =
     let shard = c.self.inside.shard in
     let pass = c.self.inside.pass in
     let key = c.args.key in
-    let told = c.in-Ok-Some.ensures in
-    let shows = subst (λ o. IfSome o (ShowsGot (get_step shard.terms (past_of shard) c.args.key c.args.who c.args.floor 0))) c.in-Ok-Some.field-0-is (told.shows 0) in
+    let ensured = c.in-Ok-Some.ensures in
+    let shows = subst (λ o. IfSome o (ShowsGot (get_step shard.terms (past_of shard) c.args.key c.args.who c.args.floor 0))) c.in-Ok-Some.field-0-is (ensured.shows 0) in
     let made = subst (λ o. IfSome o (λ got. c.get_hit.new.self ≡ stepped (rolled shard) (get_step shard.terms (past_of shard) c.args.key c.args.who c.args.floor 0)))
-    c.in-Ok-Some.field-0-is (told.step 0) in
+    c.in-Ok-Some.field-0-is (ensured.step 0) in
     let answer = c.in-Ok-Some.got in
     let step = get_step shard.terms (past_of shard) key c.args.who c.args.floor 0 in
     let home = subst (λ (v : BoundShardView). shard_of key v.shard.terms.count ≡ v.shard.terms.no) (sym c.self.view_is) c.requires.home in
@@ -70,10 +70,10 @@ returns-clause-held g c =
     let shard = c.self.inside.shard in
     let pass = c.self.inside.pass in
     let key = c.args.key in
-    let told = c.in-Ok-Some.ensures in
-    let shows = subst (λ o. IfSome o (ShowsGot (get_step shard.terms (past_of shard) c.args.key c.args.who c.args.floor 0))) c.in-Ok-Some.field-0-is (told.shows 0) in
+    let ensured = c.in-Ok-Some.ensures in
+    let shows = subst (λ o. IfSome o (ShowsGot (get_step shard.terms (past_of shard) c.args.key c.args.who c.args.floor 0))) c.in-Ok-Some.field-0-is (ensured.shows 0) in
     let made = subst (λ o. IfSome o (λ got. c.get_hit.new.self ≡ stepped (rolled shard) (get_step shard.terms (past_of shard) c.args.key c.args.who c.args.floor 0)))
-    c.in-Ok-Some.field-0-is (told.step 0) in
+    c.in-Ok-Some.field-0-is (ensured.step 0) in
     let answer = c.in-Ok-Some.got in
     let step = get_step shard.terms (past_of shard) key c.args.who c.args.floor 0 in
     let home = subst (λ (v : BoundShardView). shard_of key v.shard.terms.count ≡ v.shard.terms.no) (sym c.self.view_is) c.requires.home in

@@ -5,7 +5,7 @@ use Rattle.key_shard.specs.Shards.{past_of, is_out}
 use Rattle.log_word.specs.Steps.{IsBeginning}
 use Rattle.bound_hub.specs.Gets.{IsLastStep}
 use Rattle.bound_hub.specs.Ties.{BoundShardView}
-use Rattle.bound_hub.specs.Told.{renew_short}
+use Rattle.bound_hub.specs.StepShorts.{renew_short}
 use Rattle.bound_hub.proofs.CountLemmas.{is_out_then}
 use Rattle.bound_hub.proofs.GetLemmas.{has_mapped}
 use Rattle.bound_hub.proofs.RaiseTies.{renew_is_honest, renew_tells}
@@ -20,16 +20,16 @@ invariant_of-self-2 g c =
     let grant = a.grant.now in
     let before = g.H.BoundName.before in
     let new = c.renew.new.self in
-    let told = c.in-Ok.ensures in
+    let made = c.in-Ok.ensures in
     let has = c.is_some-has.result in
     let step = renew_step shard.terms (past_of shard) grant a.now in
     let out = is_out_then shard new c.kept_steps-kept.result c.kept_steps.result (is_out shard grant) c.kept_steps-kept.ensures.count c.kept_steps.ensures.count
-    (λ e. (told.unknown e).0) c.if-kept_steps-kept.false in
-    let short = c.renew_short-short.ensures ∙ (λ i. renew_short (c.key-key.ensures i) (c.sid.ensures i) (c.token.ensures i) c.in-Ok.told has) in
+    (λ e. (made.unknown e).0) c.if-kept_steps-kept.false in
+    let short = c.renew_short-short.ensures ∙ (λ i. renew_short (c.key-key.ensures i) (c.sid.ensures i) (c.token.ensures i) c.in-Ok.answer has) in
     let has_is = has_mapped _ c.peek.result (entry grant.key (past_of new)) has c.is_some-has.ensures (c.peek.ensures ∙ ap (λ k. entry k (past_of new)) c.key-key.ensures) in
-    let tells = renew_tells shard.terms (past_of shard) grant a.now c.in-Ok.told has (told.shows out) in
+    let tells = renew_tells shard.terms (past_of shard) grant a.now c.in-Ok.answer has (made.shows out) in
     invariant_after g.H.HubName.terms c.self.inside.token.parts c.self.inside.token.amount g.H.BoundName.word g.H.HubName.opening before shard pass c.self.invariant c.sound.ensures step
-    (renew_is_honest shard.terms (past_of shard) grant a.now g.H.HubName.opening (before shard.terms.no) c.self.invariant.2.more pass.seen) new (has_stepped shard new step (told.out out))
+    (renew_is_honest shard.terms (past_of shard) grant a.now g.H.HubName.opening (before shard.terms.no) c.self.invariant.2.more pass.seen) new (has_stepped shard new step (made.out out))
     c.renew_short-short.result c.tell.new.self
     (told_so step c.renew_short-short.result has grant.key new pass c.tell.new.self (short ∙ tells.0) tells.1 has_is c.tell.ensures.word c.tell.ensures.shard c.tell.ensures.seen)
 
@@ -44,7 +44,7 @@ returns-clause-last g c = λ out.
     let grant = c.args.grant.now in
     let new = c.renew.new.self in
     let has_is = has_mapped _ c.peek.result (entry grant.key (past_of new)) c.is_some-has.result c.is_some-has.ensures (c.peek.ensures ∙ ap (λ k. entry k (past_of new)) c.key-key.ensures) in
-    let short = renew_short grant.key grant.sid grant.token c.in-Ok.told (is_some (entry grant.key (past_of new))) in
+    let short = renew_short grant.key grant.sid grant.token c.in-Ok.answer (is_some (entry grant.key (past_of new))) in
     subst (λ (v : BoundShardView). IsLastStep v.shard.terms.no short c.tell.new.self.seen) c.self.view_is
     (step_is_last pass.shard c.self.inside.shard.terms.no c.renew_short-short.result short pass.seen c.tell.new.self.seen c.self.invariant.2.number
-    (c.renew_short-short.ensures ∙ (λ i. renew_short (c.key-key.ensures i) (c.sid.ensures i) (c.token.ensures i) c.in-Ok.told (has_is i))) c.tell.ensures.seen)
+    (c.renew_short-short.ensures ∙ (λ i. renew_short (c.key-key.ensures i) (c.sid.ensures i) (c.token.ensures i) c.in-Ok.answer (has_is i))) c.tell.ensures.seen)

@@ -6,7 +6,7 @@ use Rattle.key_shard.specs.Shards.{past_of, is_out}
 use Rattle.log_word.specs.Steps.{IsBeginning, IsBorneOut}
 use Rattle.bound_hub.specs.Gets.{IsLastStep}
 use Rattle.bound_hub.specs.Ties.{BoundShardView}
-use Rattle.bound_hub.specs.Told.{replace_short}
+use Rattle.bound_hub.specs.StepShorts.{replace_short}
 use Rattle.bound_hub.specs.Writes.{MayPut}
 use Rattle.bound_hub.proofs.CountLemmas.{not_out, is_out_then, returned_more}
 use Rattle.bound_hub.proofs.GetLemmas.{has_mapped}
@@ -19,20 +19,20 @@ invariant_of-self-then-kept_steps-kept g c =
     let shard = c.self.inside.shard in
     let a = c.args in
     let new = c.replace.new.self in
-    let told = c.in-Ok.ensures in
+    let made = c.in-Ok.ensures in
     let out = not_out shard new c.kept_steps-kept.result c.kept_steps.result (is_out shard a.grant) c.kept_steps-kept.ensures.count c.kept_steps.ensures.count
-    (λ e. returned_more shard new a.grant (replace_step shard.terms (past_of shard) a.grant a.value a.stamp) (told.out e)) c.if-kept_steps-kept.true in
+    (λ e. returned_more shard new a.grant (replace_step shard.terms (past_of shard) a.grant a.value a.stamp) (made.out e)) c.if-kept_steps-kept.true in
     invariant_still g.H.HubName.terms c.self.inside.token.parts c.self.inside.token.amount g.H.BoundName.word g.H.HubName.opening g.H.BoundName.before
-    shard new c.self.inside.pass c.note-then-kept_steps-kept.new.self (told.unknown out).0 c.note-then-kept_steps-kept.ensures.same c.self.invariant
+    shard new c.self.inside.pass c.note-then-kept_steps-kept.new.self (made.unknown out).0 c.note-then-kept_steps-kept.ensures.same c.self.invariant
 
 pub returns-then-kept_steps-kept-clause-last : goal.returns-then-kept_steps-kept-clause-last
 returns-then-kept_steps-kept-clause-last g c = λ is.
     let shard = c.self.inside.shard in
     let a = c.args in
     let new = c.replace.new.self in
-    let told = c.in-Ok.ensures in
+    let made = c.in-Ok.ensures in
     let out = not_out shard new c.kept_steps-kept.result c.kept_steps.result (is_out shard a.grant) c.kept_steps-kept.ensures.count c.kept_steps.ensures.count
-    (λ e. returned_more shard new a.grant (replace_step shard.terms (past_of shard) a.grant a.value a.stamp) (told.out e)) c.if-kept_steps-kept.true in
+    (λ e. returned_more shard new a.grant (replace_step shard.terms (past_of shard) a.grant a.value a.stamp) (made.out e)) c.if-kept_steps-kept.true in
     absurd (false≢true (sym out ∙ subst (λ (v : BoundShardView). is_out v.shard a.grant ≡ true) (sym c.self.view_is) is))
 
 pub tell-requires-clause-borne_out : goal.tell-requires-clause-borne_out
@@ -41,15 +41,15 @@ tell-requires-clause-borne_out g c =
     let pass = c.self.inside.pass in
     let a = c.args in
     let new = c.replace.new.self in
-    let told = c.in-Ok.ensures in
+    let made = c.in-Ok.ensures in
     let has = c.is_some-has.result in
     let out = is_out_then shard new c.kept_steps-kept.result c.kept_steps.result (is_out shard a.grant) c.kept_steps-kept.ensures.count c.kept_steps.ensures.count
-    (λ e. (told.unknown e).0) c.if-kept_steps-kept.false in
+    (λ e. (made.unknown e).0) c.if-kept_steps-kept.false in
     let may = subst (λ (v : BoundShardView). MayPut g.H.HubName.opening (g.H.BoundName.before v.shard.terms.no) g.H.BoundName.word.shards v.shard.terms.no a.grant.key a.grant.sid.number a.grant.token a.value a.stamp v.seen) (sym c.self.view_is) c.requires.honest in
-    let short = c.replace_short-short.ensures ∙ (λ i. replace_short (c.key-key.ensures i) (c.sid-sid.ensures i) (c.token-token.ensures i) a.stamp c.in-Ok.told has) in
+    let short = c.replace_short-short.ensures ∙ (λ i. replace_short (c.key-key.ensures i) (c.sid-sid.ensures i) (c.token-token.ensures i) a.stamp c.in-Ok.answer has) in
     subst (IsBorneOut pass.seen.events) (sym short)
     (replace_borne_out g.H.BoundName.word g.H.HubName.opening g.H.BoundName.before shard pass c.self.invariant.2 c.kept_steps-kept.ensures.legal c.sound.ensures a.grant out a.value a.stamp may
-    c.in-Ok.told has)
+    c.in-Ok.answer has)
 
 pub invariant_of-self-2 : goal.invariant_of-self-2
 invariant_of-self-2 g c =
@@ -61,16 +61,16 @@ invariant_of-self-2 g c =
     let before = g.H.BoundName.before in
     let legal = c.kept_steps-kept.ensures.legal in
     let new = c.replace.new.self in
-    let told = c.in-Ok.ensures in
+    let ensured = c.in-Ok.ensures in
     let has = c.is_some-has.result in
     let step = replace_step shard.terms (past_of shard) a.grant a.value a.stamp in
     let out = is_out_then shard new c.kept_steps-kept.result c.kept_steps.result (is_out shard a.grant) c.kept_steps-kept.ensures.count c.kept_steps.ensures.count
-    (λ e. (told.unknown e).0) c.if-kept_steps-kept.false in
+    (λ e. (ensured.unknown e).0) c.if-kept_steps-kept.false in
     let may = subst (λ (v : BoundShardView). MayPut g.H.HubName.opening (g.H.BoundName.before v.shard.terms.no) g.H.BoundName.word.shards v.shard.terms.no a.grant.key a.grant.sid.number a.grant.token a.value a.stamp v.seen) (sym c.self.view_is) c.requires.honest in
-    let short = c.replace_short-short.ensures ∙ (λ i. replace_short (c.key-key.ensures i) (c.sid-sid.ensures i) (c.token-token.ensures i) a.stamp c.in-Ok.told has) in
+    let short = c.replace_short-short.ensures ∙ (λ i. replace_short (c.key-key.ensures i) (c.sid-sid.ensures i) (c.token-token.ensures i) a.stamp c.in-Ok.answer has) in
     let has_is = has_mapped _ c.peek.result (entry a.grant.key (past_of new)) has c.is_some-has.ensures (c.peek.ensures ∙ ap (λ k. entry k (past_of new)) c.key-key.ensures) in
-    let tells = replace_tells word opening before shard pass c.self.invariant.2 legal c.sound.ensures a.grant out a.value a.stamp c.in-Ok.told has (told.shows out) in
-    let made = has_returned shard new a.grant step (told.out out) in
+    let tells = replace_tells word opening before shard pass c.self.invariant.2 legal c.sound.ensures a.grant out a.value a.stamp c.in-Ok.answer has (ensured.shows out) in
+    let made = has_returned shard new a.grant step (ensured.out out) in
     let on = replace_on word opening before shard pass c.self.invariant.2 legal c.sound.ensures a.grant out a.value a.stamp in
     let home = home_of_made word opening before shard new pass c.self.invariant.2 step made c.kept_steps.ensures.legal a.grant.key on in
     invariant_after g.H.HubName.terms c.self.inside.token.parts c.self.inside.token.amount word opening before shard pass c.self.invariant c.sound.ensures step
@@ -89,7 +89,7 @@ returns-clause-last g c = λ out.
     let a = c.args in
     let new = c.replace.new.self in
     let has_is = has_mapped _ c.peek.result (entry a.grant.key (past_of new)) c.is_some-has.result c.is_some-has.ensures (c.peek.ensures ∙ ap (λ k. entry k (past_of new)) c.key-key.ensures) in
-    let short = replace_short a.grant.key a.grant.sid a.grant.token a.stamp c.in-Ok.told (is_some (entry a.grant.key (past_of new))) in
+    let short = replace_short a.grant.key a.grant.sid a.grant.token a.stamp c.in-Ok.answer (is_some (entry a.grant.key (past_of new))) in
     subst (λ (v : BoundShardView). IsLastStep v.shard.terms.no short c.tell.new.self.seen) c.self.view_is
     (step_is_last pass.shard c.self.inside.shard.terms.no c.replace_short-short.result short pass.seen c.tell.new.self.seen c.self.invariant.2.number
-    (c.replace_short-short.ensures ∙ (λ i. replace_short (c.key-key.ensures i) (c.sid-sid.ensures i) (c.token-token.ensures i) a.stamp c.in-Ok.told (has_is i))) c.tell.ensures.seen)
+    (c.replace_short-short.ensures ∙ (λ i. replace_short (c.key-key.ensures i) (c.sid-sid.ensures i) (c.token-token.ensures i) a.stamp c.in-Ok.answer (has_is i))) c.tell.ensures.seen)

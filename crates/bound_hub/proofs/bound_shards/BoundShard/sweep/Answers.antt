@@ -7,8 +7,8 @@ use Rattle.bound_hub.proofs.FreshLemmas.{begins_on}
 use Rattle.bound_hub.proofs.SweepTies.{grant_goes_on}
 use Rattle.bound_hub.proofs.bound_shards.BoundShard.sweep.Goals as goal
 
-pub make_sweep-told-requires-clause-granted : goal.make_sweep-told-requires-clause-granted
-make_sweep-told-requires-clause-granted g c =
+pub make_sweep-answer-requires-clause-granted : goal.make_sweep-answer-requires-clause-granted
+make_sweep-answer-requires-clause-granted g c =
     let a = c.args in
     let here = c.join.new.self in
     let theirs = subst (λ (p : PassView). IsBeginning p.seen here.seen) c.note.ensures.note c.join.ensures.theirs in
@@ -18,13 +18,13 @@ make_sweep-told-requires-clause-granted g c =
 pub returns-clause-seen : goal.returns-clause-seen
 returns-clause-seen g c =
     let here = c.join.new.self in
-    let made = c.make_sweep-told in
+    let made = c.make_sweep-answer in
     begins_on c.args.pass.now.seen here.seen made.new.self.seen c.into_pass.result.seen (subst (λ (p : PassView). IsBeginning p.seen here.seen) c.note.ensures.note c.join.ensures.theirs)
     made.ensures.goes_on (ap (λ (p : PassView). p.seen) c.into_pass.ensures ∙ made.ensures.note.1)
 
 pub returns-clause-here : goal.returns-clause-here
 returns-clause-here g c =
     let here = c.join.new.self in
-    let made = c.make_sweep-told in
+    let made = c.make_sweep-answer in
     begins_on c.args.self.now.seen here.seen made.new.self.seen c.into_pass.result.seen c.join.ensures.mine made.ensures.goes_on
     (ap (λ (p : PassView). p.seen) c.into_pass.ensures ∙ made.ensures.note.1)

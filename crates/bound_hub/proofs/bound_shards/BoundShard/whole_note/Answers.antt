@@ -18,5 +18,5 @@ returns-clause-whole g c =
     (record {
       more = bound.more;
       goes_on = bound.goes_on;
-      told = ap (λ (p : PassView). steps_of c.self.inside.shard.terms.no p.seen.steps) c.note.ensures.note ∙ bound.told;
+      shorts_are = ap (λ (p : PassView). steps_of c.self.inside.shard.terms.no p.seen.steps) c.note.ensures.note ∙ bound.shorts_are;
     })

@@ -19,5 +19,5 @@ make_commit-made-requires-clause-granted g c =
 pub returns-clause-late : goal.returns-clause-late
 returns-clause-late g c =
     let made = c.make_commit-made in
-    commit_is_late g.H.HubName.opening g.H.HubName.cap c.args.sid c.args.txn c.args.grants.now c.args.pass.now.seen c.join.new.self.seen made.new.self.seen (is_none made.new.self.store.told)
+    commit_is_late g.H.HubName.opening g.H.HubName.cap c.args.sid c.args.txn c.args.grants.now c.args.pass.now.seen c.join.new.self.seen made.new.self.seen (is_none made.new.self.store.known_rows)
     made.result.0 _ (subst (λ (p : PassView). IsBeginning p.seen c.join.new.self.seen) c.note.ensures.note c.join.ensures.theirs) made.ensures.seen made.ensures.ok

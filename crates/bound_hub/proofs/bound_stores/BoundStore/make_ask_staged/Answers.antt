@@ -16,10 +16,10 @@ invariant_of-self g c =
     let asked = c.ask_staged-asked.result in
     let made = c.ask_staged-asked.ensures in
     let goes = staged_goes old new asked made.ledger made.counts made.tells in
-    let seen = c.hear.ensures.seen ∙ ap (λ b. with_keeper_call b (is_none new.told) pass.seen) c.has_failed_staged.ensures in (
-      named_with_call g.H.HubName.opening g.H.HubName.cap g.H.HubName.told g.H.HubName.start old new (staged_failed asked) c.self.invariant.0 goes made.never_falls,
+    let seen = c.hear.ensures.seen ∙ ap (λ b. with_keeper_call b (is_none new.known_rows) pass.seen) c.has_failed_staged.ensures in (
+      named_with_call g.H.HubName.opening g.H.HubName.cap g.H.HubName.known_rows g.H.HubName.start old new (staged_failed asked) c.self.invariant.0 goes made.never_falls,
       bound_with_call g.H.BoundName.word g.H.BoundName.begun g.H.BoundName.failed old new pass c.self.invariant.1 (staged_failed asked) c.hear.new.pass goes c.hear.ensures.word seen,
-      true_with_call g.H.HubName.opening pass.seen c.hear.new.pass.seen (staged_failed asked) (is_none new.told) seen c.self.invariant.2,
+      true_with_call g.H.HubName.opening pass.seen c.hear.new.pass.seen (staged_failed asked) (is_none new.known_rows) seen c.self.invariant.2,
     )
 
 pub returns-clause-goes_on : goal.returns-clause-goes_on
@@ -27,7 +27,7 @@ returns-clause-goes_on g c =
     let new = c.ask_staged-asked.new.self in
     let pass = c.self.inside.pass in
     subst (λ (v : BoundStoreView). IsBeginning v.seen c.hear.new.pass.seen) c.self.view_is
-    (call_goes_on c.has_failed_staged.result (is_none new.told) pass.seen c.hear.new.pass.seen c.hear.ensures.seen)
+    (call_goes_on c.has_failed_staged.result (is_none new.known_rows) pass.seen c.hear.new.pass.seen c.hear.ensures.seen)
 
 pub returns-clause-shows : goal.returns-clause-shows
 returns-clause-shows g c =
@@ -36,6 +36,6 @@ returns-clause-shows g c =
     let pass = c.self.inside.pass in
     let asked = c.ask_staged-asked.result in
     let made = c.ask_staged-asked.ensures in
-    let seen = c.hear.ensures.seen ∙ ap (λ b. with_keeper_call b (is_none new.told) pass.seen) c.has_failed_staged.ensures in
-    staged_shows g.H.BoundName.word g.H.BoundName.begun g.H.BoundName.failed old new pass c.self.invariant.1 g.H.HubName.opening g.H.HubName.cap g.H.HubName.told g.H.HubName.start c.self.invariant.0
+    let seen = c.hear.ensures.seen ∙ ap (λ b. with_keeper_call b (is_none new.known_rows) pass.seen) c.has_failed_staged.ensures in
+    staged_shows g.H.BoundName.word g.H.BoundName.begun g.H.BoundName.failed old new pass c.self.invariant.1 g.H.HubName.opening g.H.HubName.cap g.H.HubName.known_rows g.H.HubName.start c.self.invariant.0
     c.args.key.now c.args.txn.now asked (staged_failed asked) c.hear.new.pass.seen (staged_is c.args.key.now c.args.txn.now old new asked made.ledger made.counts made.tells) seen

@@ -19,7 +19,7 @@ add-requires-clause-follows g c =
 pub invariant_of-self-2 : goal.invariant_of-self-2
 invariant_of-self-2 g c =
     let made = c.in_ok-sid.ensures in (
-      named_with_begin g.H.HubName.opening g.H.HubName.cap g.H.HubName.told g.H.HubName.start c.self.inside.store c.begin.new.self c.args.writes
+      named_with_begin g.H.HubName.opening g.H.HubName.cap g.H.HubName.known_rows g.H.HubName.start c.self.inside.store c.begin.new.self c.args.writes
           c.self.invariant.0 made.ledger made.keeper.0 made.keeper.1,
       bound_with_begin g.H.BoundName.word g.H.BoundName.begun g.H.BoundName.failed c.self.inside.store c.begin.new.self c.self.inside.pass c.add.new.self c.in_ok-sid.sid c.args.worker c.args.writes
           c.self.invariant.1 made.ledger made.keeper.0 made.number c.add.ensures.word c.add.ensures.seen,

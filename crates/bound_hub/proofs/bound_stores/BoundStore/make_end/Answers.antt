@@ -18,7 +18,7 @@ pub invariant_of-self-2 : goal.invariant_of-self-2
 invariant_of-self-2 g c =
     let may : is_open c.args.sid c.self.inside.store.ledger.sessions ≡ true = sym c.end-closed.ensures.was ∙ sym c.was.ensures ∙ c.if-not-was.false in
     let made = c.end-closed.ensures in (
-      named_with_end g.H.HubName.opening g.H.HubName.cap g.H.HubName.told g.H.HubName.start c.self.inside.store c.end-closed.new.self c.args.sid
+      named_with_end g.H.HubName.opening g.H.HubName.cap g.H.HubName.known_rows g.H.HubName.start c.self.inside.store c.end-closed.new.self c.args.sid
           c.self.invariant.0 made.ledger made.keeper.0 made.keeper.1,
       bound_with_end g.H.BoundName.word g.H.BoundName.begun g.H.BoundName.failed c.self.inside.store c.end-closed.new.self c.self.inside.pass c.self.invariant.1
           c.args.sid true c.add.new.self may made.ledger made.keeper.0 c.add.ensures.word c.add.ensures.seen,

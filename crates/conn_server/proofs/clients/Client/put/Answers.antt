@@ -3,7 +3,7 @@ use Rattle.std.proofs.lemmas.Option.{same_Some}
 use Rattle.lease_table.specs.declared.records.Mode.TheVariants as modes
 use Rattle.key_shard.specs.Permit.{Permit}
 use Rattle.mc_text.specs.declared.commands.Command.TheVariants as commands
-use Rattle.mc_text.specs.declared.replies.LineReply.TheVariants as reply
+use Rattle.mc_text.specs.declared.replies.LineReply.TheVariants as LineReply
 use Rattle.session_client.specs.declared.replies.Wanted.TheVariants as wanted
 use Rattle.conn_server.specs.Answers.{Makes}
 use Rattle.conn_server.specs.Clients.{grants_but}
@@ -30,7 +30,7 @@ returns-in-SarBack-clause-answers g c = (
       (c.self.view_is ∙ c.take_on-place.ensures.others) back belongs c.put_back.ensures.items c.put_back.ensures.room in
       subst (λ (stamp : ℕ). Makes (g.D.Desk.record_of c.args.desk.now) (g.D.Desk.record_of c.call.new.self) c.args.self.now
       (wanted.Sar c.take_on-place.result.1 (Some c.args.block) stamp) (commands.Sar (Some c.args.key) flags exptime bytes sid c.args.block)
-      reply.Memory (record { present = c.self.inside.present; grants = c.put_back.new.self })) c.stamp-stamp.ensures
+      LineReply.Memory (record { present = c.self.inside.present; grants = c.put_back.new.self })) c.stamp-stamp.ensures
       (back_from_put _ _ c.args.self.now _ c.asker-who.result c.args.key flags exptime bytes sid c.take_on-place.result.1 c.in-SarBack.grant c.args.block
       c.stamp-stamp.result c.asker-who.ensures belongs c.in-SarBack.ensures.recorded same),
 )

@@ -1,7 +1,7 @@
 use Rattle.std.proofs.Common.{Some, true}
 use Rattle.mc_text.specs.declared.commands.Command.TheVariants as commands
 use Rattle.session_client.specs.declared.replies.Wanted.TheVariants as wanted
-use Rattle.conn_server.proofs.AnswerLemmas.{refreshes, made_quarantine, told_refresh}
+use Rattle.conn_server.proofs.AnswerLemmas.{refreshes, made_quarantine, refresh_reply}
 use Rattle.conn_server.proofs.clients.Client.refresh.Goals as goal
 
 pub returns-clause-answers : goal.returns-clause-answers
@@ -12,4 +12,4 @@ returns-clause-answers g c = λ sid.
     rw (← c.self.view_is) (made_quarantine _ _ (record { present = c.self.inside.present; grants = c.self.inside.grants }) c.asker.result
     c.tell_quarantine.new.grants (wanted.QaRead c.args.key) (commands.QaRead (Some c.args.key) sid) true
     c.call-heard.result _ who belongs c.call-heard.ensures.recorded answers
-    (told_refresh c.args.key sid c.call-heard.result answers) c.tell_quarantine.ensures.told c.tell_quarantine.ensures.items c.tell_quarantine.ensures.room)
+    (refresh_reply c.args.key sid c.call-heard.result answers) c.tell_quarantine.ensures.told c.tell_quarantine.ensures.items c.tell_quarantine.ensures.room)

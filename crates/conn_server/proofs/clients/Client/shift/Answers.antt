@@ -3,7 +3,7 @@ use Rattle.std.proofs.lemmas.Int.{to_z-of_z}
 use Rattle.mc_text.specs.declared.commands.Command.TheVariants as commands
 use Rattle.session_client.specs.declared.replies.Wanted.TheVariants as wanted
 use Rattle.conn_server.specs.Answers.{Makes}
-use Rattle.conn_server.proofs.AnswerLemmas.{made_quarantine, shifts, told_shift}
+use Rattle.conn_server.proofs.AnswerLemmas.{made_quarantine, shifts, shift_reply}
 use Rattle.conn_server.proofs.clients.Client.shift.Goals as goal
 
 pub returns-clause-answers : goal.returns-clause-answers
@@ -19,5 +19,5 @@ returns-clause-answers g c = λ sid.
     (made_quarantine _ _ (record { present = c.self.inside.present; grants = c.self.inside.grants }) c.asker.result
     c.tell_quarantine.new.grants (wanted.Delta c.args.key by) (commands.IqDelta (Some c.args.key) sid by) false
     c.call-heard.result _ who belongs c.call-heard.ensures.recorded answers
-    (told_shift c.args.key sid by c.call-heard.result answers)
+    (shift_reply c.args.key sid by c.call-heard.result answers)
     c.tell_quarantine.ensures.told c.tell_quarantine.ensures.items c.tell_quarantine.ensures.room))

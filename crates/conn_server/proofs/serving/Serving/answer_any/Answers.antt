@@ -3,9 +3,9 @@ use Rattle.std.specs.Prelude.{Ok}
 use Rattle.session_client.specs.Desks.{one_more}
 use Rattle.mc_text.specs.declared.commands.Command.TheVariants.{Quit}
 use Rattle.mc_text.specs.declared.faults.FrameFault.TheVariants as frame
-use Rattle.mc_text.specs.declared.replies.LineReply.TheVariants as reply
+use Rattle.mc_text.specs.declared.replies.LineReply.TheVariants as LineReply
 use Rattle.conn_server.specs.declared.clients.Client.{Client}
-use Rattle.conn_server.specs.declared.outgoing.Told.TheVariants as told
+use Rattle.conn_server.specs.declared.outgoing.Response.TheVariants as outgoing
 use Rattle.mixed_lines.specs.declared.streams.Said.TheVariants as said
 use Rattle.mixed_lines.specs.Items.{command, plain}
 use Rattle.conn_server.specs.Answers.{ItemAnswers}
@@ -25,7 +25,7 @@ pub returns-in-Ok-Some-Lease : goal.returns-in-Ok-Some-Lease
 returns-in-Ok-Some-Lease g c =
     let is : c.next_said-next.result ≡ Ok (Some (said.Lease c.in-Ok-Some-Lease.command)) = cc in
     let t = next_said c.args.self.now.framer c.next_said-next.new.framer c.next_said-next.result (said.Lease c.in-Ok-Some-Lease.command) c.next_said-next.ensures is in
-    let heard = told.Lease c.answer-reply.result in
+    let heard = outgoing.Lease c.answer-reply.result in
     let a : Answered (desk_side g.D.Desk.record_of g.D.Desk.tends g.P.PlainDesk.record_of c.args.desk.now c.args.plain.now) (desk_side g.D.Desk.record_of g.D.Desk.tends g.P.PlainDesk.record_of c.tell.new.desk c.args.plain.now) c.args.self.now c.tell.new.self heard =
     record {
       item = command c.in-Ok-Some-Lease.command;
@@ -53,7 +53,7 @@ returns-in-Ok-Some-Plain g c =
     let is : c.next_said-next.result ≡ Ok (Some (said.Plain c.in-Ok-Some-Plain.said c.in-Ok-Some-Plain.noreply)) = cc in
     let t = next_said c.args.self.now.framer c.next_said-next.new.framer c.next_said-next.result (said.Plain c.in-Ok-Some-Plain.said c.in-Ok-Some-Plain.noreply) c.next_said-next.ensures is in
     let p = c.answer_plain.ensures in
-    let heard = told.Plain p.tells.reply c.in-Ok-Some-Plain.noreply in
+    let heard = outgoing.Plain p.tells.reply c.in-Ok-Some-Plain.noreply in
     let a : Answered (desk_side g.D.Desk.record_of g.D.Desk.tends g.P.PlainDesk.record_of c.args.desk.now c.args.plain.now) (desk_side g.D.Desk.record_of g.D.Desk.tends g.P.PlainDesk.record_of c.answer_plain.new.desk c.answer_plain.new.plain) c.args.self.now c.answer_plain.new.self heard =
     record {
       item = plain c.in-Ok-Some-Plain.said c.in-Ok-Some-Plain.noreply;
@@ -89,7 +89,7 @@ returns-in-BadLine-clause-goes_on g c =
     let t = c.answer_bad_line.ensures in
     let a = bad_line_answered (desk_side g.D.Desk.record_of g.D.Desk.tends g.P.PlainDesk.record_of c.args.desk.now c.args.plain.now) (desk_side g.D.Desk.record_of g.D.Desk.tends g.P.PlainDesk.record_of c.answer_bad_line.new.desk c.args.plain.now) c.args.self.now
     c.answer_bad_line.new.self _ c.next_said-next.new.framer f t.framer t.asks_nothing t.tended refl t.client t.counts in
-    answered_goes_on c.answer_bad_line.result (g.L.Sink.read_side c.args.line.now) (g.L.Sink.read_side c.answer_bad_line.new.line) (g.L.Source.write_side c.args.line.now) (g.L.Source.write_side c.answer_bad_line.new.line) _ _ c.args.self.now c.answer_bad_line.new.self (told.Lease reply.BadLine) t.tells t.keeps_reading a
+    answered_goes_on c.answer_bad_line.result (g.L.Sink.read_side c.args.line.now) (g.L.Sink.read_side c.answer_bad_line.new.line) (g.L.Source.write_side c.args.line.now) (g.L.Source.write_side c.answer_bad_line.new.line) _ _ c.args.self.now c.answer_bad_line.new.self (outgoing.Lease LineReply.BadLine) t.tells t.keeps_reading a
 
 pub returns-in-BadLine-clause-ends : goal.returns-in-BadLine-clause-ends
 returns-in-BadLine-clause-ends g c =
@@ -98,7 +98,7 @@ returns-in-BadLine-clause-ends g c =
     let t = c.answer_bad_line.ensures in
     let a = bad_line_answered (desk_side g.D.Desk.record_of g.D.Desk.tends g.P.PlainDesk.record_of c.args.desk.now c.args.plain.now) (desk_side g.D.Desk.record_of g.D.Desk.tends g.P.PlainDesk.record_of c.answer_bad_line.new.desk c.args.plain.now) c.args.self.now
     c.answer_bad_line.new.self _ c.next_said-next.new.framer f t.framer t.asks_nothing t.tended refl t.client t.counts in
-    answered_ends c.answer_bad_line.result (g.L.Sink.read_side c.args.line.now) (g.L.Sink.read_side c.answer_bad_line.new.line) (g.L.Source.write_side c.args.line.now) (g.L.Source.write_side c.answer_bad_line.new.line) _ _ c.args.self.now c.answer_bad_line.new.self (told.Lease reply.BadLine) t.tells t.keeps_reading a
+    answered_ends c.answer_bad_line.result (g.L.Sink.read_side c.args.line.now) (g.L.Sink.read_side c.answer_bad_line.new.line) (g.L.Source.write_side c.args.line.now) (g.L.Source.write_side c.answer_bad_line.new.line) _ _ c.args.self.now c.answer_bad_line.new.self (outgoing.Lease LineReply.BadLine) t.tells t.keeps_reading a
 
 pub returns-in-Memory-clause-ends : goal.returns-in-Memory-clause-ends
 returns-in-Memory-clause-ends g c =

@@ -1,7 +1,7 @@
 use Rattle.std.proofs.Common.{◌∙◌, refl, sym, ap, subst}
 use Rattle.session_client.specs.Desks.{one_more}
 use Rattle.conn_server.specs.declared.clients.Client.{Client}
-use Rattle.conn_server.specs.declared.outgoing.Told.TheVariants as told
+use Rattle.conn_server.specs.declared.outgoing.Response.TheVariants as outgoing
 use Rattle.mixed_lines.specs.Items.{command}
 use Rattle.conn_server.specs.Answers.{ItemAnswers}
 use Rattle.conn_server.proofs.CourseLemmas.{Answered, answered_goes_on, answered_ends, tells_within, tells_more}
@@ -11,7 +11,7 @@ use Rattle.conn_server.proofs.serving.Serving.answer_next.Goals as goal
 pub returns-in-Some : goal.returns-in-Some
 returns-in-Some g c =
     let t = c.in-Some.ensures.takes in
-    let heard = told.Lease c.answer-reply.result in
+    let heard = outgoing.Lease c.answer-reply.result in
     let a : Answered (desk_side g.D.Desk.record_of g.D.Desk.tends g.P.PlainDesk.record_of c.args.desk.now c.args.plain.now) (desk_side g.D.Desk.record_of g.D.Desk.tends g.P.PlainDesk.record_of c.tell.new.desk c.args.plain.now) c.args.self.now c.tell.new.self heard =
     record {
       item = command c.in-Some.command;

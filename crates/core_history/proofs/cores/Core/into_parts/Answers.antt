@@ -7,5 +7,5 @@ use Rattle.core_history.proofs.cores.Core.into_parts.Goals as goal
 
 pub returns-clause-sound : goal.returns-clause-sound
 returns-clause-sound g c origin moves kept =
-    let P : CoreView → Type 0 = λ v. ForSome v.store.told (λ told. told ≡ rows_after v.store.ledger.opening v.store.ledger.log) in
+    let P : CoreView → Type 0 = λ v. ForSome v.store.known_rows (λ known. known ≡ rows_after v.store.ledger.opening v.store.ledger.log) in
     sound c.args.self origin moves kept (subst P c.self.view_is c.into_parts-keeper.ensures.told)

@@ -1,19 +1,19 @@
 use Rattle.std.proofs.Common.{◌⊎◌, ◌∷◌, List, Result, IfOk, OnErr, subst, sym}
 use Rattle.rows_model.specs.declared.refusals.Memory.{Memory}
 use Rattle.session_client.specs.declared.plans.Turn.{Turn}
-use Rattle.core_history.specs.declared.told.Told.{Told}
+use Rattle.core_history.specs.declared.turn_lines.TurnLine.{TurnLine}
 use Rattle.core_history.specs.Cores.{Origin, CoreView, HasBegun, HasKept, IsAt}
 use Rattle.core_history.specs.Machine.{Move, Said, Take, world_of, turn_event}
-use Rattle.core_history.specs.Told.{IsToldOf}
+use Rattle.core_history.specs.TurnLines.{IsLineOf}
 use Rattle.core_history.proofs.cores.Core.step.Goals as goal
 
 -- what a turn that was taken leaves, and what it leaves for want of memory
-abbrev Taken : Origin → List Move → CoreView → Result Told Memory → Turn → Type 0
+abbrev Taken : Origin → List Move → CoreView → Result TurnLine Memory → Turn → Type 0
 Taken origin moves new result turn =
-    IfOk result (λ told. (said : Said) × IsAt new origin (Take turn said ∷ moves)
-    × IsToldOf (turn_event origin.shape (world_of origin.shape moves) turn said) told)
+    IfOk result (λ printed. (said : Said) × IsAt new origin (Take turn said ∷ moves)
+    × IsLineOf (turn_event origin.shape (world_of origin.shape moves) turn said) printed)
 
-abbrev Left : Origin → List Move → CoreView → Result Told Memory → Turn → Type 0
+abbrev Left : Origin → List Move → CoreView → Result TurnLine Memory → Turn → Type 0
 Left origin moves new result turn =
     OnErr result (HasKept new origin moves ⊎ ((said : Said) × HasKept new origin (Take turn said ∷ moves)))
 

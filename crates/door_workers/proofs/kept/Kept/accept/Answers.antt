@@ -1,5 +1,5 @@
 use Rattle.std.proofs.Common.{ℕ, sym, subst, ◌∙◌}
-use Rattle.door_workers.specs.Attending.{Stands, told}
+use Rattle.door_workers.specs.Attending.{HaveCome, seen_at}
 use Rattle.door_workers.proofs.EndLemmas.{served-same}
 use Rattle.door_workers.proofs.kept.Kept.accept.Goals as goal
 
@@ -20,8 +20,8 @@ invariant_of-self-2 g c =
       (
         stands.0,
         subst
-            (λ (out : ℕ). Stands g.N.DoorName.first g.N.DoorName.most
-            (told g.D.Door.bound g.D.Door.lines g.D.Door.faults g.D.Door.ended g.D.Door.closed c.accept.new.self.lent.door.now) c.accept.new.self.so_far stands.0 out)
+            (λ (out : ℕ). HaveCome g.N.DoorName.first g.N.DoorName.most
+            (seen_at g.D.Door.bound g.D.Door.lines g.D.Door.faults g.D.Door.ended g.D.Door.closed c.accept.new.self.lent.door.now) c.accept.new.self.so_far stands.0 out)
             (sym c.add.ensures.total)
             (c.in_ok-line.ensures.line g.N.DoorName.first g.N.DoorName.most stands.0 c.self.inside.out.total stands.1),
       ),

@@ -1,6 +1,6 @@
 use Rattle.std.proofs.Common.{ℕ, ◌+◌, ◌≤◌, sym, subst, ◌∙◌}
 use Rattle.std.specs.Prelude.{IfSome}
-use Rattle.door_workers.specs.Attending.{Stands, told}
+use Rattle.door_workers.specs.Attending.{HaveCome, seen_at}
 use Rattle.door_workers.proofs.EndLemmas.{served-next}
 use Rattle.door_workers.proofs.StandLemmas.{room-more}
 use Rattle.door_workers.proofs.kept.Kept.hand_back.Goals as goal
@@ -20,8 +20,8 @@ invariant_of-self g c =
         stands.0 + 1,
         c.hand_back.ensures.stands g.N.DoorName.first g.N.DoorName.most stands.0 c.sub.new.self.total
             (subst
-            (λ (out : ℕ). Stands g.N.DoorName.first g.N.DoorName.most
-            (told g.D.Door.bound g.D.Door.lines g.D.Door.faults g.D.Door.ended g.D.Door.closed c.self.inside.at.lent.door.now) c.self.inside.at.so_far stands.0 out)
+            (λ (out : ℕ). HaveCome g.N.DoorName.first g.N.DoorName.most
+            (seen_at g.D.Door.bound g.D.Door.lines g.D.Door.faults g.D.Door.ended g.D.Door.closed c.self.inside.at.lent.door.now) c.self.inside.at.so_far stands.0 out)
             (sym c.sub.ensures.total) stands.1),
       ),
       (λ fresh. c.hand_back.ensures.stays_fresh (c.self.invariant.2 fresh)),

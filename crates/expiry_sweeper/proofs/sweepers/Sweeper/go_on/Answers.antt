@@ -5,7 +5,7 @@ use Rattle.expiry_sweeper.proofs.sweepers.Sweeper.go_on.Goals as goal
 use Rattle.expiry_sweeper.proofs.sweepers.Sweeper.go_on.Goals.{then-next-self, else-next-self}
 
 pub returns-clause-follows : goal.returns-clause-follows
-returns-clause-follows c told follows =
+returns-clause-follows c replies follows =
     let old = c.args.self.now in
     let next : c.if-next-self.self ≡ next_of old =
     elim c.if-next-self.branch [
@@ -13,4 +13,4 @@ returns-clause-follows c told follows =
       | else-next-self w ↦ let last : old.shards ≤ old.shard + 1 =
           omega (arith, w.if-next-self.false) in cond_above (old.shard + 1) old.shards (old.shard + 1) 0 c.if-next-self.self last w.self-is
     ] in
-    follows_none_found old _ old.shard told c.requires refl next refl follows
+    follows_none_found old _ old.shard replies c.requires refl next refl follows

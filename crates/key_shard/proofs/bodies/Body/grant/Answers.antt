@@ -52,9 +52,9 @@ returns-clause-kept c =
     (sym c.requires.kept.ties.counted)
     (subst (λ d. Answers (terms_of old) (steps_of old) (Granted c.args.key c.args.sid c.args.mode shift c.args.now
     (next_token (terms_of old) (steps_of old)) d)) (sym c.deadline-deadline.ensures) c.requires.answers) in
-    let told : ℤ → Type 0 = λ s. Leaves c.args.key None (quars c.args.key old.leases
+    let same : ℤ → Type 0 = λ s. Leaves c.args.key None (quars c.args.key old.leases
     ++ record { sid = c.args.sid; mode = c.args.mode; token = token; deadline = deadline; shift = s } ∷ []) old.leases c.stand.new.leases in
-    let leaves = subst told (to_z-of_z w32 shift fits) c.in-Ok.ensures.stands in
+    let leaves = subst same (to_z-of_z w32 shift fits) c.in-Ok.ensures.stands in
     let pushed = subst (λ (s : ℤ). c.push.new.self.steps ≡ c.make_room.new.self.steps
     ++ Granted c.args.key c.args.sid c.args.mode s c.args.now token deadline ∷ []) (to_z-of_z w32 shift fits) c.push.ensures.items
     ∙ ap (λ (h : List Step). h ++ step ∷ []) c.make_room.ensures.items in

@@ -22,14 +22,14 @@ returns-in-Err-clause-kept c =
     (ap (λ (t : Table). t.list) same) refl refl refl c.requires.kept.one_of c.requires.kept.promises c.requires.kept.reserved
 
 -- the key that made room is the one that the past tells, also where the grant's key was read first
-told : (key key' : QKey) (value : List ℕ) (stamp : ℕ) (evicted evicted' : Option QKey) (old new : Table)
+puts_same : (key key' : QKey) (value : List ℕ) (stamp : ℕ) (evicted evicted' : Option QKey) (old new : Table)
     → key' ≡ key → evicted' ≡ evicted → Puts key' value stamp evicted' old new → Puts key value stamp evicted old new
-told key key' value stamp evicted evicted' old new keys same puts =
+puts_same key key' value stamp evicted evicted' old new keys same puts =
     subst (λ e. Puts key value stamp e old new) same (subst (λ k. Puts k value stamp evicted' old new) keys puts)
 
-room-told : {terms : Terms} {past : List Step} {list : List Item} {table : List Lease} {next : ℕ} {evicted : Option QKey}
+room-evicted : {terms : Terms} {past : List Step} {list : List Item} {table : List Lease} {next : ℕ} {evicted : Option QKey}
     → Ties terms past list table next → (key key' : QKey) → key' ≡ key → evicted ≡ makes_room terms.room key' list → evicted ≡ evicts terms key past
-room-told {terms = terms} {past = past} ties key key' keys by = by ∙ evicts-room ties key' ∙ ap (λ k. evicts terms k past) keys
+room-evicted {terms = terms} {past = past} ties key key' keys by = by ∙ evicts-room ties key' ∙ ap (λ k. evicts terms k past) keys
 
 -- the step of a put that is pushed is the one that the past tells
 step-pushed : {new : List Step} {grant key : QKey} {token token' : ℕ} {value copy : List ℕ} {evicted evicted' : Option QKey}
@@ -48,10 +48,10 @@ returns-clause-kept c =
     let grant = c.args.grant in
     let evicted : Option QKey = evicts (terms_of old) grant.key (steps_of old) in
     let step : Step = Released grant.key c.args.quar.sid grant.token (Put c.args.value c.args.stamp evicted) in
-    let room = room-told c.requires.kept.ties grant.key c.key-key.result c.key-key.ensures c.in-Ok-put_in_front.ensures.puts.room_by in
+    let room = room-evicted c.requires.kept.ties grant.key c.key-key.result c.key-key.ensures c.in-Ok-put_in_front.ensures.puts.room_by in
     let pushed = step-pushed old.history.steps c.args.quar.sid c.args.stamp c.push_reserved.ensures.items c.key-key.ensures c.token-token.ensures
     c.in-Ok.ensures room in
-    let puts = told grant.key c.key-key.result c.args.value c.args.stamp
+    let puts = puts_same grant.key c.key-key.result c.args.value c.args.stamp
     evicted c.in-Ok-put_in_front.evicted old.entries c.put_in_front.new.entries c.key-key.ensures room c.in-Ok-put_in_front.ensures.puts in
     let leaves = ended-leaves c.requires.kept.ties grant.key grant.token c.key-key.result c.token-token.result
     c.end_q.result c.args.quar c.end_q.new.self c.key-key.ensures c.token-token.ensures c.end_q.ensures.ended c.end_q.ensures.after c.requires.stands in
@@ -69,7 +69,7 @@ returns-clause-step c =
     let old = c.args.self.now in
     let grant = c.args.grant in
     let evicted : Option QKey = evicts (terms_of old) grant.key (steps_of old) in
-    let room = room-told c.requires.kept.ties grant.key c.key-key.result c.key-key.ensures c.in-Ok-put_in_front.ensures.puts.room_by in
+    let room = room-evicted c.requires.kept.ties grant.key c.key-key.result c.key-key.ensures c.in-Ok-put_in_front.ensures.puts.room_by in
     let pushed = step-pushed old.history.steps c.args.quar.sid c.args.stamp c.push_reserved.ensures.items c.key-key.ensures c.token-token.ensures
     c.in-Ok.ensures room in
     view-returned old _ c.push_reserved.new.self.steps c.take.new.self c.push_reserved.new.self.gone (Released grant.key c.args.quar.sid grant.token (Put c.args.value c.args.stamp evicted))

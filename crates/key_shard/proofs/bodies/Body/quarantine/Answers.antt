@@ -43,8 +43,8 @@ refuse-requires-clause-answers c =
 pub grant-requires-clause-answers : goal.grant-requires-clause-answers
 grant-requires-clause-answers c =
     let old = c.args.self.now in
-    let told = judged c.requires.kept.ties c.args.key c.args.sid c.args.mode c.args.now c.judge_q.result c.judge_q.ensures in
-    let given = ap is_given told ∙ given-one c.judge_q.result c.in-Give.is in
+    let judged_so = judged c.requires.kept.ties c.args.key c.args.sid c.args.mode c.args.now c.judge_q.result c.judge_q.ensures in
+    let given = ap is_given judged_so ∙ given-one c.judge_q.result c.in-Give.is in
     let answers : ℤ → Type 0 = λ s. Answers (terms_of old) (steps_of old)
     (Granted c.args.key c.args.sid c.args.mode s c.args.now (next_token (terms_of old) (steps_of old)) (deadline_at (terms_of old) c.args.now)) in
     subst answers (sym (to_z-of_z w32 c.args.shift c.ranges.shift)) (record {

@@ -6,12 +6,12 @@ use Rattle.key_shard.specs.Answers.{Answers, shared_step}
 use Rattle.key_shard.specs.Replies.{ShowsRaise}
 use Rattle.key_shard.specs.Shards.{stepped}
 use Rattle.key_shard.specs.Kept.{shown, terms_of, steps_of}
-use Rattle.key_shard.proofs.OutRaises.{other-told, shared-named}
+use Rattle.key_shard.proofs.OutRaises.{other-found, shared-named}
 use Rattle.key_shard.proofs.bodies.Body.share.Goals as goal
 
 pub unwrap-requires : goal.unwrap-requires
 unwrap-requires c =
-    subst IsSome (sym (other-told c.requires.kept.ties c.args.grant.key c.key-key.result c.args.grant.sid c.sid-sid.result c.other.result
+    subst IsSome (sym (other-found c.requires.kept.ties c.args.grant.key c.key-key.result c.args.grant.sid c.sid-sid.result c.other.result
     c.key-key.ensures c.sid-sid.ensures c.other.ensures)) c.requires.beside
 
 pub note_also-requires-clause-answers : goal.note_also-requires-clause-answers
@@ -28,9 +28,9 @@ returns-in-Ok-clause-step c =
 
 pub returns-in-Ok-clause-shows : goal.returns-in-Ok-clause-shows
 returns-in-Ok-clause-shows c =
-    let told = other-told c.requires.kept.ties c.args.grant.key c.key-key.result c.args.grant.sid c.sid-sid.result c.other.result
+    let judged_so = other-found c.requires.kept.ties c.args.grant.key c.key-key.result c.args.grant.sid c.sid-sid.result c.other.result
     c.key-key.ensures c.sid-sid.ensures c.other.ensures in
     let one : first (others_in c.args.grant.sid (standing c.args.grant.key (steps_of c.args.self.now))) ≡ Some c.unwrap.result =
-    sym told ∙ c.unwrap.ensures in
+    sym judged_so ∙ c.unwrap.ensures in
     subst (λ o. ShowsRaise (steps_of c.args.self.now) c.args.grant (shared_step c.args.grant o) (raising.Shared c.args.grant c.unwrap.result.sid))
     (sym one) refl

@@ -17,15 +17,15 @@ returns-clause-kept c =
     let evicted : Option QKey = evicts (terms_of old) c.args.key (steps_of old) in
     let step : Step = Stored c.args.key c.args.token c.args.now c.args.value c.args.stamp evicted in
     let put = c.put_in_front.new.entries in
-    let told : c.in-Ok.evicted ≡ evicted = c.in-Ok.ensures.puts.room_by ∙ evicts-room c.requires.kept.ties c.args.key in
+    let same : c.in-Ok.evicted ≡ evicted = c.in-Ok.ensures.puts.room_by ∙ evicts-room c.requires.kept.ties c.args.key in
     let puts : Puts c.args.key c.args.value c.args.stamp evicted old.entries put =
-    subst (λ e. Puts c.args.key c.args.value c.args.stamp e old.entries put) told
+    subst (λ e. Puts c.args.key c.args.value c.args.stamp e old.entries put) same
     (subst (λ v. Puts c.args.key v c.args.stamp c.in-Ok.evicted old.entries put) c.in_ok-copy.ensures c.in-Ok.ensures.puts) in
     let current = c.take_i.ensures.taken ∙ ap (is_current c.args.token c.args.now) (c.requires.kept.ties.reads c.args.key) ∙ c.requires.current in
     let leaves = MatchBool-at_true (Leaves c.args.key None (quars c.args.key old.leases) old.leases c.take_i.new.self)
     (c.take_i.new.self ≡ old.leases) current c.take_i.ensures.after in
     let pushed = c.push.ensures.items ∙ ap (λ (h : List Step). h ++ Stored c.args.key c.args.token c.args.now c.args.value c.args.stamp c.in-Ok.evicted
-    ∷ []) c.make_room.ensures.items ∙ ap (λ e. old.history.steps ++ Stored c.args.key c.args.token c.args.now c.args.value c.args.stamp e ∷ []) told in
+    ∷ []) c.make_room.ensures.items ∙ ap (λ e. old.history.steps ++ Stored c.args.key c.args.token c.args.now c.args.value c.args.stamp e ∷ []) same in
     let ties = Ties-stored (terms_of old) (steps_of old) old.entries.list old.leases
     c.take_i.new.self old.next c.args.key c.args.token c.args.now c.args.value c.args.stamp evicted put puts leaves c.requires.answers c.requires.kept.ties in
     IsKept-step old _ step (λ k t q e. e) c.requires.kept pushed (terms-kept old put.room puts.same_room)

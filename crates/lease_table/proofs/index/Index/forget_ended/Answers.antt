@@ -4,7 +4,7 @@ use Rattle.std.specs.List.Sorted.{IsPermutation}
 use Rattle.std.proofs.lemmas.Fn.{filter_same}
 use Rattle.lease_table.specs.declared.index.Index.{Index}
 use Rattle.lease_table.specs.Leases.{has_token}
-use Rattle.lease_table.specs.Stands.{stands_in}
+use Rattle.lease_table.specs.Standing.{stands_in}
 use Rattle.lease_table.proofs.IndexLemmas.{ListsEach-ended}
 use Rattle.lease_table.proofs.index.Index.forget_ended.Goals as goal
 

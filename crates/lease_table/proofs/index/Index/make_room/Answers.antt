@@ -1,4 +1,4 @@
-use Rattle.lease_table.specs.Stands.{stands_in}
+use Rattle.lease_table.specs.Standing.{stands_in}
 use Rattle.lease_table.proofs.IndexLemmas.{ListsEach-keeps}
 use Rattle.lease_table.proofs.index.Index.make_room.Goals as goal
 

@@ -1,6 +1,6 @@
 use Rattle.std.proofs.Common.{subst, sym, IfSome, IfNone}
 use Rattle.lease_table.specs.Expiry.{StandsDue, NoneDueBefore, NoneDue}
-use Rattle.lease_table.specs.Stands.{stands_in}
+use Rattle.lease_table.specs.Standing.{stands_in}
 use Rattle.lease_table.proofs.IndexLemmas.{ListsEach-keeps}
 use Rattle.lease_table.proofs.TableLemmas.{stands_in-records}
 use Rattle.lease_table.proofs.ChangeLemmas.{may-stand}

@@ -1,6 +1,6 @@
 use Rattle.std.proofs.Common.{subst, sym}
 use Rattle.lease_table.specs.Expiry.{NoneDue}
-use Rattle.lease_table.specs.Stands.{stands_in}
+use Rattle.lease_table.specs.Standing.{stands_in}
 use Rattle.lease_table.proofs.DueLemmas.{none-due}
 use Rattle.lease_table.proofs.TableLemmas.{stands_in-records}
 use Rattle.lease_table.proofs.ChangeLemmas.{may-stand}

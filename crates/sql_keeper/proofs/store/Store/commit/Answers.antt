@@ -4,7 +4,7 @@ use Rattle.rows_model.specs.Changes.{apply_all}
 use Rattle.sql_keeper.specs.Log.{rows_after}
 use Rattle.sql_keeper.specs.Sessions.{is_open}
 use Rattle.sql_keeper.specs.Stores.{Ledger, IsLedger, with_commit}
-use Rattle.sql_keeper.proofs.StoreLemmas.{told-at, rows-committed, ledger-committed, admitted, failed-same}
+use Rattle.sql_keeper.proofs.StoreLemmas.{known-at, rows-committed, ledger-committed, admitted, failed-same}
 use Rattle.sql_keeper.proofs.store.Store.commit.Goals as goal
 
 pub returns-in-Err-clause-rejected : goal.returns-in-Err-clause-rejected
@@ -21,11 +21,11 @@ invariant_of-self-2 g c =
     rw (c.push_reserved.ensures.items, c.admit.ensures.items, c.close.ensures) refl in (
       c.commit.ensures.started,
       subst IsLedger (sym same) (ledger-committed ledger c.args.sid c.args.txn c.self.invariant.1 first.0 first.1),
-      λ told is_told.
-          let before = c.in_default-commit.ensures.tells told is_told in
+      λ known_rows is_told.
+          let before = c.in_default-commit.ensures.tells known_rows is_told in
           let log_is = c.self.invariant.2 before.0 before.1 in
-          rows-committed inside.opening inside.log.items c.args.sid c.args.txn told
-          (subst (λ (rows : Tables). apply_all c.args.txn rows ≡ Ok told) log_is before.2)
+          rows-committed inside.opening inside.log.items c.args.sid c.args.txn known_rows
+          (subst (λ (rows : Tables). apply_all c.args.txn rows ≡ Ok known_rows) log_is before.2)
           ∙ sym (ap (λ l. rows_after inside.opening l.log) same),
       failed-same _ _ _ _ c.self.invariant.3 c.in_default-commit.ensures.counts,
     )
@@ -34,7 +34,7 @@ pub returns-clause-applied : goal.returns-clause-applied
 returns-clause-applied g c =
     rw (← c.self.view_is)
     (λ some.
-    let told = told-at _ some in
-    let before = c.in_default-commit.ensures.tells told.0 told.1 in
+    let known = known-at _ some in
+    let before = c.in_default-commit.ensures.tells known.0 known.1 in
     let log_is = c.self.invariant.2 before.0 before.1 in
-    (told.0, subst (λ (rows : Tables). apply_all c.args.txn rows ≡ Ok told.0) log_is before.2))
+    (known.0, subst (λ (rows : Tables). apply_all c.args.txn rows ≡ Ok known.0) log_is before.2))

@@ -45,6 +45,6 @@ returns-clause-tells g c never =
       settled = c.in_ok-find_open.ensures.settled clean;
       begins = c.transaction-tx.ensures.begun;
     }) (c.in_ok-find_open.ensures.open clean) in
-    let told = c.answer-value.ensures.told (all_clean g.S.Store never c.answer-value.new.tx.conn.now) (lists_of (state g.S.Store begun).now) b.counted.lists b.counted.fit in
+    let made = c.answer-value.ensures.told (all_clean g.S.Store never c.answer-value.new.tx.conn.now) (lists_of (state g.S.Store begun).now) b.counted.lists b.counted.fit in
     let was : rows_in (state g.S.Store begun).now ≡ c.args.self.now = ap rows_in b.now ∙ c.self.view_is in
-    subst (λ (rows : Tables). IfOk c.answer-value.result (λ value. value ≡ answer c.args.key.now rows)) was told
+    subst (λ (rows : Tables). IfOk c.answer-value.result (λ value. value ≡ answer c.args.key.now rows)) was made

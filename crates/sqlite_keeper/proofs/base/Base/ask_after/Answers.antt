@@ -43,6 +43,6 @@ returns-clause-tells g c never =
       settled = c.in_default.ensures.settled clean;
       begins = c.transaction-tx.ensures.begun;
     }) (c.in_default.ensures.open clean) in
-    let told = c.answer_after-value.ensures.told (all_clean g.S.Store never c.answer_after-value.new.tx.conn.now) b.counted in
+    let made = c.answer_after-value.ensures.told (all_clean g.S.Store never c.answer_after-value.new.tx.conn.now) b.counted in
     let was : rows_in (state g.S.Store begun).now ≡ c.args.self.now = ap rows_in b.now ∙ c.self.view_is in
-    subst (λ (rows : Tables). AnswersAfter c.args.txn.now c.args.key.now rows c.answer_after-value.result) was told
+    subst (λ (rows : Tables). AnswersAfter c.args.txn.now c.args.key.now rows c.answer_after-value.result) was made

@@ -104,8 +104,8 @@ returns-in-Ok-keep_changes g c = record {
       let now : Tables = rows_in (state g.S.Store new).now in
       let led : apply_from 0 c.args.txn.now (rows_in seen) ≡ Ok now = subst (λ (changes : List Change). apply_from 0 changes (rows_in seen) ≡ Ok now) c.changes.ensures.items a.led in
       let from : apply_from 0 c.args.txn.now c.args.self.now ≡ Ok now = subst (λ (rows : Tables). apply_from 0 c.args.txn.now rows ≡ Ok now) c.self.view_is led in
-      let told = seen_is g.S.Store c.new.result.items c.and-self-inside.result.items new c.new.ensures c.and-self-inside.ensures in
-      apply_all_is c.args.txn.now c.args.self.now ∙ (from ∙ ap (λ (db : Database). (let r : Result Tables ℕ = Ok (rows_in db) in r)) (sym told));
+      let is_same = seen_is g.S.Store c.new.result.items c.and-self-inside.result.items new c.new.ensures c.and-self-inside.ensures in
+      apply_all_is c.args.txn.now c.args.self.now ∙ (from ∙ ap (λ (db : Database). (let r : Result Tables ℕ = Ok (rows_in db) in r)) (sym is_same));
 }
 
 pub invariant_of-self-in-Err-keep_changes : goal.invariant_of-self-in-Err-keep_changes

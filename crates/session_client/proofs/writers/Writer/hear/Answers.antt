@@ -2,7 +2,7 @@ use Rattle.std.proofs.Common.{refl, sym, ◌∙◌}
 use Rattle.session_client.specs.Wants.{Writing}
 use Rattle.session_client.specs.Writers.{then_as}
 use Rattle.session_client.proofs.HandLemmas.{with_fact}
-use Rattle.session_client.proofs.writers.Writer.told.Goals as goal
+use Rattle.session_client.proofs.writers.Writer.hear.Goals as goal
 
 pub invariant_of-self : goal.invariant_of-self
 invariant_of-self c = (c.stage_after_commit-stage.ensures.as_long ∙ c.self.invariant.0, c.stage_after_commit-stage.ensures.room c.self.inside.next c.self.inside.keys.items, c.self.invariant.2)

@@ -1,14 +1,14 @@
 ghost use Rattle.std.specs.Prelude.{◌≡◌};
-ghost use Rattle.core_history.specs.Told.{line_in, fault_in};
+ghost use Rattle.core_history.specs.TurnLines.{line_in, fault_in};
 
 /// What a turn prints.
 #[derive(Drop)]
-pub struct Told {
+pub struct TurnLine {
     pub(crate) line: Vec<u8>,
     pub(crate) fault: bool,
 }
 
-impl Told {
+impl TurnLine {
     /// The turn's line, with its line end.
     pub fn line(&self) -> &[u8]
         ensures { result.now ≡ line_in self.now }

@@ -1,6 +1,6 @@
 //! Steps in short, told by the answers to their requests.
 ghost use Rattle.std.specs.Prelude.{◌≡◌};
-ghost use Rattle.bound_hub.specs.Told.{set_short, quarantine_short, kind_of_how, stamp_of_how, release_short, replace_short, raise_short, renew_short};
+ghost use Rattle.bound_hub.specs.StepShorts.{set_short, quarantine_short, kind_of_how, stamp_of_how, release_short, replace_short, raise_short, renew_short};
 
 use crate::shorts::{NOBODY, granted, made, raised};
 use key_shard::{How, QAnswer, Raising, Rel, Renewal, SetAnswer};

@@ -3,7 +3,7 @@ use rows_model::{Change, Memory, QKey, Txn};
 use session_client::{Grants, Plan, Wanted};
 use std::alloc::{AllocError, Global};
 
-fn change_told(alloc: Global, change: &Change) -> Result<String, AllocError> {
+fn change_text(alloc: Global, change: &Change) -> Result<String, AllocError> {
     match *change {
         Change::Invite { a, b } => format!(in alloc; "invite {a} {b}"),
         Change::Accept { a, b } => format!(in alloc; "accept {a} {b}"),
@@ -19,38 +19,42 @@ fn change_told(alloc: Global, change: &Change) -> Result<String, AllocError> {
     }
 }
 
-fn txn_told(alloc: Global, txn: &Txn) -> Result<String, AllocError> {
-    let mut told = String::new(alloc);
+fn txn_text(alloc: Global, txn: &Txn) -> Result<String, AllocError> {
+    let mut text = String::new(alloc);
     for change in txn.changes() {
-        told.push_str(" + ")?;
-        told.push_str(change_told(alloc, change)?.as_str())?;
+        text.push_str(" + ")?;
+        text.push_str(change_text(alloc, change)?.as_str())?;
     }
-    Ok(told)
+    Ok(text)
 }
 
-fn key_told(alloc: Global, key: &QKey) -> Result<String, AllocError> {
+fn text_of_key(alloc: Global, key: &QKey) -> Result<String, AllocError> {
     format!(in alloc; "{:?}:{}", key.kind, key.id)
 }
 
-pub fn plan_told(alloc: Global, plan: &Plan) -> Result<String, AllocError> {
+pub fn plan_text(alloc: Global, plan: &Plan) -> Result<String, AllocError> {
     match plan {
         Plan::Read { key, floor } => {
-            format!(in alloc; "read {} floor {floor}", key_told(alloc, key)?)
+            format!(in alloc; "read {} floor {floor}", text_of_key(alloc, key)?)
         }
-        Plan::Write { mode, txn } => format!(in alloc; "write {mode:?}{}", txn_told(alloc, txn)?),
+        Plan::Write { mode, txn } => format!(in alloc; "write {mode:?}{}", txn_text(alloc, txn)?),
         Plan::Look { mode, key, txn } => {
             format!(in alloc;
                 "look {mode:?} {}{}",
-                key_told(alloc, key)?,
-                txn_told(alloc, txn)?
+                text_of_key(alloc, key)?,
+                txn_text(alloc, txn)?
             )
         }
-        Plan::Quit { mode, txn } => format!(in alloc; "quit {mode:?}{}", txn_told(alloc, txn)?),
+        Plan::Quit { mode, txn } => format!(in alloc; "quit {mode:?}{}", txn_text(alloc, txn)?),
         Plan::Skip { key, txn } => {
-            format!(in alloc; "skip {}{}", key_told(alloc, key)?, txn_told(alloc, txn)?)
+            format!(in alloc;
+                "skip {}{}",
+                text_of_key(alloc, key)?,
+                txn_text(alloc, txn)?
+            )
         }
-        Plan::Raise { txn } => format!(in alloc; "raise{}", txn_told(alloc, txn)?),
-        Plan::Renew { mode, txn } => format!(in alloc; "renew {mode:?}{}", txn_told(alloc, txn)?),
+        Plan::Raise { txn } => format!(in alloc; "raise{}", txn_text(alloc, txn)?),
+        Plan::Renew { mode, txn } => format!(in alloc; "renew {mode:?}{}", txn_text(alloc, txn)?),
     }
 }
 
@@ -108,16 +112,16 @@ fn number_of(wanted: &Wanted) -> Option<i128> {
 }
 
 /// The tokens of grants.
-fn tokens_told(alloc: Global, grants: &Grants) -> Result<String, AllocError> {
-    let mut told = String::new(alloc);
+fn tokens_text(alloc: Global, grants: &Grants) -> Result<String, AllocError> {
+    let mut text = String::new(alloc);
     for grant in grants.items() {
-        told.push_str(format!(in alloc; " {}", grant.token())?.as_str())?;
+        text.push_str(format!(in alloc; " {}", grant.token())?.as_str())?;
     }
-    Ok(told)
+    Ok(text)
 }
 
 /// What stands behind the key and the number of a request.
-fn rest_told(alloc: Global, wanted: &Wanted) -> Result<String, AllocError> {
+fn rest_text(alloc: Global, wanted: &Wanted) -> Result<String, AllocError> {
     match wanted {
         Wanted::Set { value, stamp, .. } => {
             format!(in alloc;
@@ -130,21 +134,21 @@ fn rest_told(alloc: Global, wanted: &Wanted) -> Result<String, AllocError> {
             ..
         } => format!(in alloc; " [{}]", String::from_utf8_lossy(alloc, value.bytes())?),
         Wanted::Sar { value: None, .. } => String::from_str(alloc, " none"),
-        Wanted::Commit { grants, .. } => tokens_told(alloc, grants),
+        Wanted::Commit { grants, .. } => tokens_text(alloc, grants),
         _ => Ok(String::new(alloc)),
     }
 }
 
 /// A request: its word, its key and its numbers, and its value in brackets or the tokens of its grants.
-pub fn wanted_told(alloc: Global, wanted: &Wanted) -> Result<String, Memory> {
-    let mut told = String::from_str(alloc, verb_of(wanted))?;
+pub fn wanted_text(alloc: Global, wanted: &Wanted) -> Result<String, Memory> {
+    let mut text = String::from_str(alloc, verb_of(wanted))?;
     if let Some(key) = key_of(wanted) {
-        told.push_str(" ")?;
-        told.push_str(String::from_utf8_lossy(alloc, key.text(alloc)?.bytes())?.as_str())?;
+        text.push_str(" ")?;
+        text.push_str(String::from_utf8_lossy(alloc, key.text(alloc)?.bytes())?.as_str())?;
     }
     if let Some(number) = number_of(wanted) {
-        told.push_str(format!(in alloc; " {number}")?.as_str())?;
+        text.push_str(format!(in alloc; " {number}")?.as_str())?;
     }
-    told.push_str(rest_told(alloc, wanted)?.as_str())?;
-    Ok(told)
+    text.push_str(rest_text(alloc, wanted)?.as_str())?;
+    Ok(text)
 }
