@@ -190,7 +190,7 @@ same_of_usage (Ok (words.Work at spec)) ended courses h is =
     let course = courses at in
     absurd (subst (λ (e : Status). WorkEnded e spec course.held course.before course.after course.left course.written) is h.1)
 same_of_usage (Ok (words.Serve at spec)) ended courses h is = absurd (subst (λ (e : Status). ServeEnded e spec (courses at)) is h.1)
-same_of_usage (Ok (words.Text text)) ended courses h is =
+same_of_usage (Ok (words.Page text)) ended courses h is =
     absurd (subst (λ (e : Status). IsTextPart e text.items (h place.Fresh).1.printed) is (h place.Fresh).1.is_part)
 same_of_usage (Err fault.Usage) ended courses h is = (place.Fresh, (h.1 place.Fresh).same)
 same_of_usage (Err fault.Memory) ended courses h is = (place.Fresh, (h.1 place.Fresh).same)

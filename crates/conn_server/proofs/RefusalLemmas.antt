@@ -114,8 +114,13 @@ may_abort (Some present) sid own writer = writer
 may_abort None sid own writer = cc
 
 -- what a command that isn't refused has, by what it is: its key is one
-pub keyed : (client : Client) (said : Command) (key : Option QKey) → key_word said ≡ Some key → refused client said ≡ None → IsSome key
+keyed : (client : Client) (said : Command) (key : Option QKey) → key_word said ≡ Some key → refused client said ≡ None → IsSome key
 keyed client said key is e = has_key key (subst (λ (w : Option (Option QKey)). is_no_key w ≡ false) is (passes client said e).key)
+
+-- so it isn't none
+pub not_unkeyed : (client : Client) (said : Command) (key : Option QKey) → key_word said ≡ Some key → refused client said ≡ None → key ≢ None
+not_unkeyed client said (Some key) is e none = cc
+not_unkeyed client said None is e none = true≢false (sym (keyed client said None is e))
 
 -- a quarantine may be granted
 pub roomy : (client : Client) (said : Command) → quarantines said ≡ true → refused client said ≡ None → length client.grants.items < 64

@@ -30,10 +30,10 @@ use Rattle.session_client.specs.declared.replies.Reply.TheVariants as Reply
 use Rattle.core_history.specs.Events.{Event, Stepped, Called, Ticked, Swept, steps_of, commits_of_reply, log_of, ends_of_reply, ended_of, known_of}
 use Rattle.core_history.specs.Facts.{Found, found_at, answers_under}
 
--- The answer is among these.
-abbrev pub IsAmong : Answer → List Answer → Type 0
-IsAmong answered [] = ⊥
-IsAmong answered (first ∷ answers) = (first ≡ answered) ⊎ IsAmong answered answers
+-- The answer is one of these.
+abbrev pub IsOneOf : Answer → List Answer → Type 0
+IsOneOf answered [] = ⊥
+IsOneOf answered (first ∷ answers) = (first ≡ answered) ⊎ IsOneOf answered answers
 
 -- A value that is stored is an answer that the session was told under the lease that is recorded.
 pub record SetsAnswer (past : List Event) (steps : List Step) (who : Sid) (on : QKey) (token : ℕ) (value : List ℕ) (stamp : ℕ) : Type 0 where
@@ -41,7 +41,7 @@ pub record SetsAnswer (past : List Event) (steps : List Step) (who : Sid) (on : 
   pub is_recorded : recorded on steps ≡ Some lease
   pub mine : lease.token ≡ token
   pub answered : Answer
-  pub reply : IsAmong answered (answers_under on token who.number past)
+  pub reply : IsOneOf answered (answers_under on token who.number past)
   pub value_is : value ≡ answered.value
   pub stamp_is : stamp ≡ answered.stamp
 

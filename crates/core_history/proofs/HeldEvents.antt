@@ -42,7 +42,7 @@ use Rattle.session_client.specs.declared.replies.Wanted.TheVariants as wanted
 use Rattle.core_history.specs.Events.{Event, Stepped, Called, Ticked, Swept, steps_of, commits_of_reply, log_of, ends_of_reply, ends_swept, ended_of, known_of}
 use Rattle.core_history.specs.Facts.{leases, leased_at, answers_in, answers_under, Found, grants_as, found_at}
 use Rattle.core_history.proofs.ExclusiveLemmas.{AreAlone, HasNoReader, grants-on, writes_held, apart_step, alone_step, alone-more, alone-after}
-use Rattle.core_history.proofs.GoodEvents.{IsAmong, SetsAnswer, IsGoodStep, IsGoodSweep, IsGoodEnd, IsGoodEvent, IsGoodClosing}
+use Rattle.core_history.proofs.GoodEvents.{IsOneOf, SetsAnswer, IsGoodStep, IsGoodSweep, IsGoodEnd, IsGoodEvent, IsGoodClosing}
 use Rattle.core_history.proofs.ListLemmas.{choose, every-append, every-weaker, not_both, and_elim}
 
 -- the steps of a key's shard
@@ -185,7 +185,7 @@ not_so false h = refl
 
 -- what is stored was told under the lease that is recorded: the moment of that lease, and a stamp between then and now
 between_answers : (least most : ℕ) (answered : Answer) (answers : List Answer)
-    → AllByRecursion (IsBetween least most) answers → IsAmong answered answers → IsBetween least most answered
+    → AllByRecursion (IsBetween least most) answers → IsOneOf answered answers → IsBetween least most answered
 between_answers least most answered (first ∷ answers) h (inl e) = subst (IsBetween least most) e h.0
 between_answers least most answered (first ∷ answers) h (inr t) = between_answers least most answered answers h.1 t
 between_answers least most answered [] h t = absurd t

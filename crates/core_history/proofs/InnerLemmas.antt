@@ -40,7 +40,7 @@ use Rattle.core_history.specs.Facts.{answers_in, answers_under}
 use Rattle.core_history.specs.Freshness.{IsQuarantinedReply, IsQuarantinedEvent, AreQuarantined}
 use Rattle.core_history.proofs.GrantFacts.{IsDrawnBelow}
 use Rattle.core_history.proofs.ListLemmas.{every-weaker, every-append, any-back, push-place}
-use Rattle.core_history.proofs.GoodEvents.{IsAmong}
+use Rattle.core_history.proofs.GoodEvents.{IsOneOf}
 use Rattle.core_history.proofs.KeyLemmas.{IsQuietStep, quiet-as, quiet-grants, granted_standing, answers-draw, next-append}
 use Rattle.core_history.proofs.EventLemmas.{ever, closed, closed-more, unmade-steps, IsLate, late-stepped, late-called, late-ticked, late-swept}
 use Rattle.core_history.proofs.EventLemmas.{IsKnown, known-more, IsCounted, counts-more, counted-mild, counted-called, counted-ticked}
@@ -57,7 +57,7 @@ IsIdle other = ⊥
 
 -- an answer that a reader was told after its lease was told under that lease
 abbrev pub IsHolding : QKey → ℕ → List Event → List Reply → Type 0
-IsHolding key n past (Reply.Answer answered ∷ Reply.Got (got.Lease token) ∷ heard) = IsAmong answered (answers_under key token n past)
+IsHolding key n past (Reply.Answer answered ∷ Reply.Got (got.Lease token) ∷ heard) = IsOneOf answered (answers_under key token n past)
 IsHolding key n past heard = Unit {0}
 
 -- what a reader of this key was told
@@ -123,7 +123,7 @@ drawn-weaker low high le (Reply.RaiseBack grant) h = tt
 drawn-weaker low high le (Reply.Renew grant answer) h = tt
 drawn-weaker low high le Reply.Nothing h = tt
 
-answer-back : (answered : Answer) (xs ys : List Answer) → IsAmong answered ys → IsAmong answered (xs ++ ys)
+answer-back : (answered : Answer) (xs ys : List Answer) → IsOneOf answered ys → IsOneOf answered (xs ++ ys)
 answer-back answered [] ys h = h
 answer-back answered (x ∷ xs) ys h = inr (answer-back answered xs ys h)
 
@@ -133,7 +133,7 @@ holding-more : (shape : Shape) (event : Event) (past : List Event) (key : QKey) 
     → IsHolding key n past heard
     → IsHolding key n (event ∷ past) heard
 holding-more shape (Stepped place who request s reply) past key n (Reply.Answer answered ∷ Reply.Got (got.Lease token) ∷ heard) late drawn h =
-    subst (λ b. IsAmong answered (cond b [] (answers_under key token n past))) (sym (late key token drawn.1.0).0) h
+    subst (λ b. IsOneOf answered (cond b [] (answers_under key token n past))) (sym (late key token drawn.1.0).0) h
 holding-more shape (Called who request reply) past key n (Reply.Answer answered ∷ Reply.Got (got.Lease token) ∷ heard) late drawn h =
     answer-back answered (answers_in key n who reply) (answers_under key token n past) h
 holding-more shape (Ticked now) past key n (Reply.Answer answered ∷ Reply.Got (got.Lease token) ∷ heard) late drawn h = h

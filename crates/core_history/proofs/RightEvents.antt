@@ -41,7 +41,7 @@ use Rattle.core_history.specs.Events.{Event, Stepped, Called, Ticked, Swept, ste
 use Rattle.core_history.specs.Facts.{leases, answers_in, answers_under, Found, grants_as, found_at}
 use Rattle.core_history.specs.Truth.{IsTrueEvent}
 use Rattle.core_history.proofs.ExclusiveLemmas.{WritesAlone, writes_alone, grants-on}
-use Rattle.core_history.proofs.GoodEvents.{IsAmong, PutsNew, ShiftsOwn, IsGoodStep, IsGoodSweep, IsGoodEvent}
+use Rattle.core_history.proofs.GoodEvents.{IsOneOf, PutsNew, ShiftsOwn, IsGoodStep, IsGoodSweep, IsGoodEvent}
 use Rattle.core_history.proofs.HeldEvents.{steps_at, IsWithin, IsHome, Holds, IsSamePast, same-called, same-ticked, same-swept, same-dropped}
 use Rattle.core_history.proofs.ListLemmas.{choose, every-append, every-weaker, every-any, and_elim, not_true}
 use Rattle.core_history.proofs.TrueLogs.{answer_after, IsTrueLog, leaves_untouched, makes_refreshed, makes_shifted}
@@ -115,7 +115,7 @@ module _ (opening : Tables) (log : List Commit) where
   entry_after key past (step.Shared on sid token holder) good h = h
   entry_after key past (step.Renewed on sid token now deadline) good h = h
 
-right_answer : (P : Answer → Type 0) (answered : Answer) (answers : List Answer) → AllByRecursion P answers → IsAmong answered answers → P answered
+right_answer : (P : Answer → Type 0) (answered : Answer) (answers : List Answer) → AllByRecursion P answers → IsOneOf answered answers → P answered
 right_answer P answered (first ∷ answers) h (inl e) = subst P e h.0
 right_answer P answered (first ∷ answers) h (inr t) = right_answer P answered answers h.1 t
 right_answer P answered [] h t = absurd t

@@ -27,7 +27,7 @@ use Rattle.core_history.specs.Events.{Event, Stepped, Called, Ticked, Swept, ste
 use Rattle.core_history.specs.Facts.{leases, leased_at, answers_under, Found, grants_as, found_at}
 use Rattle.core_history.specs.Sweeps.{IsHitSince}
 use Rattle.core_history.proofs.ExclusiveLemmas.{writes_alone}
-use Rattle.core_history.proofs.GoodEvents.{IsAmong, SetsAnswer, WritesOwn, IsGoodStep, IsGoodEvent}
+use Rattle.core_history.proofs.GoodEvents.{IsOneOf, SetsAnswer, WritesOwn, IsGoodStep, IsGoodEvent}
 use Rattle.core_history.proofs.HeldEvents.{steps_at, IsBetween, Holds, Gives, recorded_cases}
 use Rattle.core_history.proofs.KeyLemmas.{StandsIn, quar-kept}
 use Rattle.core_history.proofs.EventLemmas.{unmade-steps}
@@ -73,7 +73,7 @@ shifted_since least stamp by None le = tt
 shifted_since least stamp by (Some old) le = number_since least stamp (shifted old.0 by) le
 
 -- an answer that was told under a lease
-answer_since : (least most : ℕ) (answered : Answer) (answers : List Answer) → AllByRecursion (IsBetween least most) answers → IsAmong answered answers
+answer_since : (least most : ℕ) (answered : Answer) (answers : List Answer) → AllByRecursion (IsBetween least most) answers → IsOneOf answered answers
     → least ≤ answered.stamp
 answer_since least most answered (first ∷ answers) h (inl e) = subst (λ (a : Answer). least ≤ a.stamp) e h.0.0
 answer_since least most answered (first ∷ answers) h (inr t) = answer_since least most answered answers h.1 t

@@ -67,7 +67,7 @@ on_once : (make : List ℕ → PlainCommand) (AreOthers AreMore : List (List ℕ
     → IsOnKey make AreOthers words a → IsOnKey make AreMore words b → a ≡ b
 on_once make AreOthers AreMore [] a b h k = absurd h.words_are
 on_once make AreOthers AreMore (word ∷ words) a b h k =
-    h.told_is ∙ (on_key_once word h.key k.key make h.words_are.0 k.words_are.0 ∙ sym k.told_is)
+    h.said_is ∙ (on_key_once word h.key k.key make h.words_are.0 k.words_are.0 ∙ sym k.said_is)
 
 last_behind : (make : List ℕ → PlainCommand) (words : List (List ℕ)) (a b : PlainSaid) (m n : Bool)
     → IsOnKey make (λ rest. IsLast rest m) words a → IsOnKey make (λ rest. IsLast rest n) words b → m ≡ n
@@ -81,9 +81,9 @@ counted_once make [] a b m n x y h k = absurd h.words_are
 counted_once make (word ∷ []) a b m n x y h k = absurd h.words_are.1
 counted_once make (word ∷ (number ∷ rest)) a b m n x y h k =
     let same = number_once number x y h.words_are.1.0 k.words_are.1.0 in (
-      h.told_is
+      h.said_is
           ∙ (on_key_once word h.key k.key (make x) h.words_are.0 k.words_are.0
-          ∙ (ap (λ (by : ℕ). on_key k.key (make by)) same ∙ sym k.told_is)),
+          ∙ (ap (λ (by : ℕ). on_key k.key (make by)) same ∙ sym k.said_is)),
       last_once rest m n h.words_are.1.1 k.words_are.1.1,
     )
 

@@ -13,7 +13,7 @@ use Rattle.sql_keeper.specs.declared.keepers.Place.TheVariants.{Fresh, File}
 use Rattle.run_words.specs.declared.words.Conns.{Conns}
 use Rattle.run_words.specs.declared.words.Conns.TheVariants.{Number, Forever}
 use Rattle.run_words.specs.declared.words.Words.{Words}
-use Rattle.run_words.specs.declared.words.Words.TheVariants.{Replay, Work, Serve, Text}
+use Rattle.run_words.specs.declared.words.Words.TheVariants.{Replay, Work, Serve, Page}
 use Rattle.run_words.specs.declared.words.WordsFault.{WordsFault}
 use Rattle.run_words.specs.declared.words.WordsFault.TheVariants.{Usage, Memory}
 use Rattle.run_words.specs.Program.{program}
@@ -155,7 +155,7 @@ stand words (Serve at spec) h =
     (decimal_utf8 spec.shards shards) (decimal_utf8 spec.members members) in
     stands words h.others h.place (codes "serve") _ h.written are.written h.named serve_utf8 utf8
     (serve_taken h.place (plain_path h.place h.named) _ _ _ _ _ plain)
-stand words (Text text) h = absurd h.are_command
+stand words (Page text) h = absurd h.are_command
 
 -- ---- what is read of them
 
@@ -198,7 +198,7 @@ pub accepted : (words : List Text) (r : Result Words WordsFault) → IfOk r (IsS
 accepted words (Ok (Replay at)) said usage command h = own_words words command h (Replay at) said
 accepted words (Ok (Work at spec)) said usage command h = own_words words command h (Work at spec) said
 accepted words (Ok (Serve at spec)) said usage command h = own_words words command h (Serve at spec) said
-accepted words (Ok (Text text)) said usage command h = absurd (no_text words (stand words command h).taken.taken said)
+accepted words (Ok (Page text)) said usage command h = absurd (no_text words (stand words command h).taken.taken said)
 accepted words (Err Memory) said usage command h = refl
 accepted words (Err Usage) said usage command h = absurd (usage refl command (own_said words command h))
 

@@ -12,7 +12,7 @@ use Rattle.clap.specs.Words.{first_value}
 use Rattle.clap.proofs.WalkLemmas.{first_value-rows, raw_values-rows}
 use Rattle.sql_keeper.specs.declared.keepers.Place.{Place}
 use Rattle.run_words.specs.declared.words.Words.{Words}
-use Rattle.run_words.specs.declared.words.Words.TheVariants.{Replay, Work, Serve, Text}
+use Rattle.run_words.specs.declared.words.Words.TheVariants.{Replay, Work, Serve, Page}
 use Rattle.run_words.specs.declared.words.WordsFault.{WordsFault}
 use Rattle.run_words.specs.declared.words.WordsFault.TheVariants as fault
 use Rattle.run_words.specs.Program.{program}
@@ -115,7 +115,7 @@ pub said : (words : List Text) (m : ArgMatches) → AreTakenBy words m → (comm
 said words m t (Replay at) h = said_given words m t (Replay at) h
 said words m t (Work at spec) h = said_given words m t (Work at spec) h
 said words m t (Serve at spec) h = said_given words m t (Serve at spec) h
-said words m t (Text text) h = absurd h.are_command
+said words m t (Page text) h = absurd h.are_command
 
 -- and where they are given no command, none is said
 pub none_said : (words : List Text) (m : ArgMatches) → AreTakenBy words m → ((command : Words) → AreGiven (subcommand_rows_of m) command → ⊥)
@@ -139,7 +139,7 @@ asks words kind (inr among) (inl help) = inl (subst (λ (k : ErrorKind). IsAmong
 asks words kind (inr among) (inr version) = inr (subst (λ (k : ErrorKind). IsAmong k (fault_of program words)) version among)
 
 pub text_said : (words : List Text) (kind : ErrorKind) (r : Result Words WordsFault) → Refuses words kind → IsRefused kind r → IfOk r (IsSaid words)
-text_said words kind (Ok (Text text)) f h = asks words kind f h
+text_said words kind (Ok (Page text)) f h = asks words kind f h
 text_said words kind (Ok (Replay at)) f h = absurd h
 text_said words kind (Ok (Work at spec)) f h = absurd h
 text_said words kind (Ok (Serve at spec)) f h = absurd h

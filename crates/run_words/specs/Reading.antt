@@ -7,7 +7,7 @@ use Rattle.clap.specs.declared.error.kind.ErrorKind.TheVariants.{DisplayHelp, Di
 use Rattle.sql_keeper.specs.declared.keepers.Place.{Place}
 use Rattle.sql_keeper.specs.declared.keepers.Place.TheVariants.{Fresh, File}
 use Rattle.run_words.specs.declared.words.Words.{Words}
-use Rattle.run_words.specs.declared.words.Words.TheVariants.{Text}
+use Rattle.run_words.specs.declared.words.Words.TheVariants.{Page}
 use Rattle.run_words.specs.declared.words.WordsFault.{WordsFault}
 use Rattle.run_words.specs.declared.words.WordsFault.TheVariants as fault
 use Rattle.run_words.specs.Program.{program}
@@ -48,7 +48,7 @@ AskForText words = IsAmong DisplayHelp (fault_of program words) ⊎ IsAmong Disp
 
 -- What `clap` says of the words: a command, or that they ask for a text.
 abbrev pub IsSaid : List Text → Words → Type 0
-IsSaid words (Text text) = AskForText words
+IsSaid words (Page text) = AskForText words
 IsSaid words command = AreSaid words command
 
 -- What is read of words, which are UTF-8.
@@ -61,7 +61,7 @@ IsText kind = (kind ≡ DisplayHelp) ⊎ (kind ≡ DisplayVersion)
 
 -- What a refusal of this kind comes to. Memory may run out at each.
 abbrev pub IsRefused : ErrorKind → Result Words WordsFault → Type 0
-IsRefused kind (Ok (Text text)) = IsText kind
+IsRefused kind (Ok (Page text)) = IsText kind
 IsRefused kind (Ok command) = ⊥
 IsRefused kind (Err fault.Usage) = (IsText kind → ⊥) × (kind ≡ OutOfMemory → ⊥)
 IsRefused kind (Err fault.Memory) = (kind ≡ OutOfMemory) ⊎ IsText kind

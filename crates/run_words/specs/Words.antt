@@ -9,7 +9,7 @@ use Rattle.run_words.specs.declared.words.Conns.{Conns}
 use Rattle.run_words.specs.declared.words.Conns.TheVariants.{Number, Forever}
 use Rattle.run_words.specs.declared.words.ServeSpec.{ServeSpec}
 use Rattle.run_words.specs.declared.words.Words.{Words}
-use Rattle.run_words.specs.declared.words.Words.TheVariants.{Replay, Work, Serve, Text}
+use Rattle.run_words.specs.declared.words.Words.TheVariants.{Replay, Work, Serve, Page}
 
 -- An address or a path may be written so: UTF-8 text that isn't empty and doesn't begin with a hyphen.
 pub record IsPlainText (text : List ℕ) : Type 0 where
@@ -85,7 +85,7 @@ abbrev pub AreCommand : List (List ℕ) → Place → Words → Type 0
 AreCommand words place (Replay at) = (at ≡ place) × (words ≡ codes "replay" ∷ [])
 AreCommand words place (Work at spec) = (at ≡ place) × AreWork words spec
 AreCommand words place (Serve at spec) = (at ≡ place) × AreServe words spec
-AreCommand words place (Text text) = ⊥
+AreCommand words place (Page text) = ⊥
 
 -- The words are, word for word, those of the command.
 pub record AreWords (words : List (List ℕ)) (command : Words) : Type 0 where

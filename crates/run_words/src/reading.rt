@@ -100,7 +100,7 @@ fn text_by(alloc: Global, error: &Error) -> Result<Words, WordsFault>
     ensures { IsRefused (kind_of error.now) result }
 {
     match error.kind() {
-        ErrorKind::DisplayHelp | ErrorKind::DisplayVersion => Ok(Words::Text {
+        ErrorKind::DisplayHelp | ErrorKind::DisplayVersion => Ok(Words::Page {
             text: format!(in alloc; "{error}")?.into_bytes(),
         }),
         ErrorKind::OutOfMemory => Err(WordsFault::Memory),

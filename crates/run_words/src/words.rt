@@ -52,7 +52,7 @@ pub enum Words {
     /// To serve connections.
     Serve { place: Place, spec: ServeSpec },
     /// To show this text, the help or the version.
-    Text { text: Vec<u8> },
+    Page { text: Vec<u8> },
 }
 
 /// Why words were not read.

@@ -55,7 +55,7 @@ fn words_text(alloc: Global, words: &[Vec<u8>]) -> Result<String, AllocError> {
             spec.shards,
             spec.members
         ),
-        Ok(Words::Text { text }) => format!(in alloc;
+        Ok(Words::Page { text }) => format!(in alloc;
             "told {}",
             String::from_utf8_lossy(alloc, text.as_slice())?
         ),

@@ -39,7 +39,7 @@ abbrev first_word : Words → List ℕ
 first_word (words.Replay at) = codes "replay"
 first_word (words.Work at spec) = codes "work"
 first_word (words.Serve at spec) = codes "serve"
-first_word (words.Text text) = []
+first_word (words.Page text) = []
 
 stays_first : (place : Place) (others : List (List ℕ)) → get_or (with_place place others) 0 [] ≡ get_or others 0 []
 stays_first place [] = refl
@@ -54,7 +54,7 @@ is_first : (spoken : List (List ℕ)) (command : Words) → AreWords spoken comm
 is_first spoken (words.Replay at) h = begins_with spoken h.others h.place _ _ h.written h.are_command.1
 is_first spoken (words.Work at spec) h = begins_with spoken h.others h.place _ _ h.written h.are_command.1.written
 is_first spoken (words.Serve at spec) h = begins_with spoken h.others h.place _ _ h.written h.are_command.1.written
-is_first spoken (words.Text text) h = absurd h.are_command
+is_first spoken (words.Page text) h = absurd h.are_command
 
 -- words of one command are of no other
 replay_or_work : (spoken : List (List ℕ)) (at place : Place) (spec : WorkSpec) → AreWords spoken (words.Replay at) → AreWords spoken (words.Work place spec) → ⊥
@@ -186,8 +186,8 @@ ended_alike spoken (words.Work at spec) (words.Replay place) h k ended courses e
 ended_alike spoken (words.Work at spec) (words.Serve place other) h k ended courses e = absurd (work_or_serve spoken at place spec other h k)
 ended_alike spoken (words.Serve at spec) (words.Replay place) h k ended courses e = absurd (replay_or_serve spoken place at spec k h)
 ended_alike spoken (words.Serve at spec) (words.Work place other) h k ended courses e = absurd (work_or_serve spoken place at other spec k h)
-ended_alike spoken (words.Text text) command h k ended courses e = absurd h.are_command
-ended_alike spoken found (words.Text text) h k ended courses e = absurd k.are_command
+ended_alike spoken (words.Page text) command h k ended courses e = absurd h.are_command
+ended_alike spoken found (words.Page text) h k ended courses e = absurd k.are_command
 
 -- or where memory ran out for reading them
 ended_unread : (spoken : List (List ℕ)) (command : Words) → AreWords spoken command
@@ -213,7 +213,7 @@ ended_unread spoken (words.Serve at spec) k ended courses e =
       unread_of course refused.same,
       subst (λ (s : Status). ServeEnded s spec course) (sym e.0) (inl (unasked_of course refused.same, refused.nothing, refused.unserved)),
     )
-ended_unread spoken (words.Text text) k ended courses e = absurd k.are_command
+ended_unread spoken (words.Page text) k ended courses e = absurd k.are_command
 
 worded_of : (spoken : List (List ℕ)) (read : Result Words WordsFault) (ended : Status) (courses : Place → Course) → Accepts spoken read
     → EndedAs read ended courses → (command : Words) → AreWords spoken command → EndedAs (Ok command) ended courses
@@ -330,7 +330,7 @@ lines_of : (command : Words) (ends : List LineEnd) (before after : Option (List 
 lines_of (words.Replay at) ends before after are = are
 lines_of (words.Work at spec) ends before after are = are
 lines_of (words.Serve at spec) ends before after are = all_served (most_served spec.conns) ends before after are
-lines_of (words.Text text) ends before after are = are
+lines_of (words.Page text) ends before after are = are
 
 lines_alike : (spoken : List (List ℕ)) (found command : Words) → AreWords spoken found → AreWords spoken command
     → (ends : List LineEnd) (before after : Option (List LineRecord)) → LinesEnded (Ok found) ends before after → LinesEnded (Ok command) ends before after
@@ -344,8 +344,8 @@ lines_alike spoken (words.Serve at spec) (words.Serve place other) h k ends befo
     subst (λ (conns : Conns). AreServed (most_served conns) ends before after) (same_conns k.others spec other too k.are_command.1) are
 lines_alike spoken (words.Serve at spec) (words.Replay place) h k ends before after are = absurd (replay_or_serve spoken place at spec k h)
 lines_alike spoken (words.Serve at spec) (words.Work place other) h k ends before after are = absurd (work_or_serve spoken place at other spec k h)
-lines_alike spoken (words.Serve at spec) (words.Text text) h k ends before after are = absurd k.are_command
-lines_alike spoken (words.Text text) command h k ends before after are = absurd h.are_command
+lines_alike spoken (words.Serve at spec) (words.Page text) h k ends before after are = absurd k.are_command
+lines_alike spoken (words.Page text) command h k ends before after are = absurd h.are_command
 
 worded_lines : (spoken : List (List ℕ)) (read : Result Words WordsFault) (ends : List LineEnd) (before after : Option (List LineRecord))
     → Accepts spoken read → LinesEnded read ends before after → (command : Words) → AreWords spoken command → LinesEnded (Ok command) ends before after

@@ -57,7 +57,7 @@ EndedAs (Ok (words.Work place spec)) ended courses =
     × IsUnserved course
 EndedAs (Ok (words.Serve place spec)) ended courses =
     let course = courses place in IsUnread course.before course.after × ServeEnded ended spec course
-EndedAs (Ok (words.Text text)) ended courses =
+EndedAs (Ok (words.Page text)) ended courses =
     (place : Place)
     → IsUnread (courses place).before (courses place).after
     × IsTextPrinted text.items ended (courses place).before (courses place).after (courses place).left (courses place).written

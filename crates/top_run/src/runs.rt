@@ -195,7 +195,7 @@ pub fn run<
         Ok(Words::Serve { place, spec }) => {
             serve(rt, alloc, &place, &spec, sink, keeper, door, clock, gate)
         }
-        Ok(Words::Text { text }) => tell(alloc, text.as_slice(), sink, keeper),
+        Ok(Words::Page { text }) => tell(alloc, text.as_slice(), sink, keeper),
         Err(WordsFault::Usage) => not_started(alloc, Status::Usage, keeper),
         Err(WordsFault::Memory) => not_started(alloc, Status::Memory, keeper),
     }

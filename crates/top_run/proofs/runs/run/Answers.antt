@@ -58,18 +58,18 @@ returns-in-Ok-Serve-clause-done g c = λ place are done.
     absurd (server_no_replay _ c.read_words.result c.in-Ok-Serve.field-0 c.in-Ok-Serve.place c.in-Ok-Serve.spec c.read_words.ensures.accepts
     c.in-Ok-Serve.is c.in-Ok-Serve.field-0-is place are)
 
-pub returns-in-Ok-Text-clause-ended : goal.returns-in-Ok-Text-clause-ended
-returns-in-Ok-Text-clause-ended g c =
+pub returns-in-Ok-Page-clause-ended : goal.returns-in-Ok-Page-clause-ended
+returns-in-Ok-Page-clause-ended g c =
     command_ok _ c.read_words.result _ _ c.read_words.ensures.accepts c.read_words.ensures.read c.read_words.ensures.usage
-    c.in-Ok-Text.field-0 (words.Text c.in-Ok-Text.text) c.in-Ok-Text.is c.in-Ok-Text.field-0-is (λ place. (
+    c.in-Ok-Page.field-0 (words.Page c.in-Ok-Page.text) c.in-Ok-Page.is c.in-Ok-Page.field-0-is (λ place. (
       record { left = refl; count = refl },
       rw c.as_slice.ensures.value at
           (c.tell.ensures.told (told_by g.S.Source c.args.source.now)),
       record { no_ends = c.tell.ensures.no_ends; door = refl },
     ))
 
-pub returns-in-Ok-Text-clause-usage : goal.returns-in-Ok-Text-clause-usage
-returns-in-Ok-Text-clause-usage g c = λ is.
+pub returns-in-Ok-Page-clause-usage : goal.returns-in-Ok-Page-clause-usage
+returns-in-Ok-Page-clause-usage g c = λ is.
     let made = c.tell.ensures.told (told_by g.S.Source c.args.source.now) in
     absurd (subst (λ (e : Status). IsTextPart e c.as_slice.result.now made.printed) is made.is_part)
 
@@ -135,10 +135,10 @@ returns-in-Ok-Serve-clause-lines g c = λ fresh.
     lines_ok _ c.read_words.result _ _ _ c.read_words.ensures.accepts c.read_words.ensures.read c.read_words.ensures.usage
     c.in-Ok-Serve.field-0 (words.Serve c.in-Ok-Serve.place c.in-Ok-Serve.spec) c.in-Ok-Serve.is c.in-Ok-Serve.field-0-is (c.serve.ensures.lines fresh)
 
-pub returns-in-Ok-Text-clause-lines : goal.returns-in-Ok-Text-clause-lines
-returns-in-Ok-Text-clause-lines g c = λ fresh.
+pub returns-in-Ok-Page-clause-lines : goal.returns-in-Ok-Page-clause-lines
+returns-in-Ok-Page-clause-lines g c = λ fresh.
     lines_ok _ c.read_words.result _ _ _ c.read_words.ensures.accepts c.read_words.ensures.read c.read_words.ensures.usage
-    c.in-Ok-Text.field-0 (words.Text c.in-Ok-Text.text) c.in-Ok-Text.is c.in-Ok-Text.field-0-is (none_ended _ _ _ c.tell.ensures.no_ends refl)
+    c.in-Ok-Page.field-0 (words.Page c.in-Ok-Page.text) c.in-Ok-Page.is c.in-Ok-Page.field-0-is (none_ended _ _ _ c.tell.ensures.no_ends refl)
 
 pub returns-in-Err-Usage-clause-lines : goal.returns-in-Err-Usage-clause-lines
 returns-in-Err-Usage-clause-lines g c = λ fresh.
