@@ -41,7 +41,7 @@ pub record SetsAnswer (past : List Event) (steps : List Step) (who : Sid) (on : 
   pub is_recorded : recorded on steps ≡ Some lease
   pub mine : lease.token ≡ token
   pub answered : Answer
-  pub reply : IsOneOf answered (answers_under on token who.number past)
+  pub is_answer : IsOneOf answered (answers_under on token who.number past)
   pub value_is : value ≡ answered.value
   pub stamp_is : stamp ≡ answered.stamp
 

@@ -38,7 +38,7 @@ use Rattle.core_history.proofs.KeyLemmas.{IsQuietStep}
 use Rattle.core_history.proofs.EventLemmas.{ever}
 use Rattle.core_history.proofs.SessionLemmas.{maybe-step, DrawsLate, IsLateDraw}
 use Rattle.core_history.proofs.InnerLemmas.{Inner, IsSession, IsHolding, HasHeard, with_event, reader-more, mild-inner, quiet-inner, draws-late}
-use Rattle.core_history.proofs.GoodEvents.{IsAmong, IsGoodEvent}
+use Rattle.core_history.proofs.GoodEvents.{IsOneOf, IsGoodEvent}
 
 -- the facts after the event of a request, which is good
 abbrev pub After : Shape → World → Sid → Said → Wanted → Type 0
@@ -204,7 +204,7 @@ set-turn shape world who said key floor token answer rest inner plan heard =
     request : Wanted
     request = wanted.Set key token answer.value answer.stamp
 
-    answered : IsAmong answer (answers_under key token who.number past)
+    answered : IsOneOf answer (answers_under key token who.number past)
     answered =
         let S : Option Plan → Type 0 = λ p. IsSession shape past who.number (heard_by who.number past) p in
         subst (IsHolding key who.number past) heard (subst S plan (inner.sessions who.number)).3
@@ -225,7 +225,7 @@ set-turn shape world who said key floor token answer rest inner plan heard =
 ask-holding : (key : QKey) (who : Sid) (request : Wanted) (past : List Event) (answered : Answer) (heard : List Reply) → key ≡ answered.key
     → IsHolding key who.number (Called who request (Reply.Answer answered) ∷ past) (Reply.Answer answered ∷ heard)
 ask-holding key who request past answered (Reply.Got (got.Lease token) ∷ heard) same =
-    subst (λ b. IsAmong answered (cond b (answered ∷ []) [] ++ answers_under key token who.number past))
+    subst (λ b. IsOneOf answered (cond b (answered ∷ []) [] ++ answers_under key token who.number past))
     (sym (and_intro (who.number == who.number) (same_key key answered.key)
     (eq-eqb who.number who.number refl) (subst (λ k. same_key key k ≡ true) same (same_key-refl key)))) (inl refl)
 ask-holding key who request past answered heard same = tt

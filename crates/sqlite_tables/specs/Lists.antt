@@ -166,7 +166,7 @@ number_of other = 0
 
 -- the text that a value is
 abbrev pub text_of : Value → List ℕ
-text_of (Page text) = text
+text_of (Text text) = text
 text_of other = []
 
 -- the state that a number stands for
