@@ -40,6 +40,7 @@ use Rattle.run_words.specs.declared.words.WordsFault.{WordsFault}
 use Rattle.run_words.specs.declared.words.WordsFault.TheVariants as fault
 use Rattle.run_audit.specs.declared.findings.Finding.{Finding}
 use Rattle.top_run.specs.Works.{IsSummed, IsSummarized, WorkEnded}
+use Rattle.top_run.specs.Warms.{WarmEnded}
 use Rattle.core_history.specs.Machine.{terms_of}
 use Rattle.core_history.specs.Truth.{IsTruePast}
 use Rattle.top_run.specs.declared.runs.Status.{Status}
@@ -180,6 +181,12 @@ covered-run s held before after left written h = by (began-or-not s held before 
     by (inl k) = λ place commit key at touched. absurd (none-at left.log place commit k.no_log at)
     by (inr b) = b.keeps.covered
 
+-- two loads don't end as a faulty command line
+no_usage_of_two : (spec : WorkSpec) (course : Course) → WarmEnded status.Usage spec course → ⊥
+no_usage_of_two spec course (inl first) = absurd first.stopped
+no_usage_of_two spec course (inr (inl between)) = absurd between.is_part
+no_usage_of_two spec course (inr (inr second)) = absurd second
+
 -- words that are refused change nothing
 pub same_of_usage : (read : Result Words WordsFault) (ended : Status) (courses : Place → Course) → EndedAs read ended courses
     → ended ≡ status.Usage → (at : Place) × ((courses at).after ≡ (courses at).before)
@@ -189,6 +196,7 @@ same_of_usage (Ok (words.Replay at)) ended courses h is =
 same_of_usage (Ok (words.Work at spec)) ended courses h is =
     let course = courses at in
     absurd (subst (λ (e : Status). WorkEnded e spec course.held course.before course.after course.left course.written) is h.1)
+same_of_usage (Ok (words.Warm at spec)) ended courses h is = absurd (no_usage_of_two spec (courses at) (subst (λ (e : Status). WarmEnded e spec (courses at)) is h.1))
 same_of_usage (Ok (words.Serve at spec)) ended courses h is = absurd (subst (λ (e : Status). ServeEnded e spec (courses at)) is h.1)
 same_of_usage (Ok (words.Page text)) ended courses h is =
     absurd (subst (λ (e : Status). IsTextPart e text.items (h place.Fresh).1.printed) is (h place.Fresh).1.is_part)
