@@ -85,15 +85,15 @@ some_told (Some rows) some = refl
 
 -- and those of one that was never made
 pub new_right : (opening : Tables) (before : ℕ → List Step) (store given : StoreView) (shards : List ShardView) (begun failed : ℕ)
-    → store ≡ given → IsNewStore begun failed given → All (IsNewShard opening before (is_none given.told)) shards → IsSome store.known_rows
+    → store ≡ given → IsNewStore begun failed given → All (IsNewShard opening before (is_none given.known_rows)) shards → IsSome store.known_rows
     → AreRight opening store.ledger.log shards
 new_right opening before store given shards begun failed same new are some =
-    let is_so : is_none given.told ≡ false = some_told given.told (subst (λ (s : StoreView). IsSome s.known_rows) same some) in
+    let is_so : is_none given.known_rows ≡ false = some_told given.known_rows (subst (λ (s : StoreView). IsSome s.known_rows) same some) in
     let log : store.ledger.log ≡ [] = ap (λ (s : StoreView). s.ledger.log) same ∙ new.none in
-    All-weaker (IsNewShard opening before (is_none given.told)) (IsRightBehind opening store.ledger.log)
+    All-weaker (IsNewShard opening before (is_none given.known_rows)) (IsRightBehind opening store.ledger.log)
     (λ shard h. λ key value stamp home is none.
-    let first : IsFirst opening (is_none given.told) key (Some (value, stamp)) =
-    subst (IsFirst opening (is_none given.told) key) (ap (entry key) (sym h.past_is) ∙ is) (h.entries key) in
+    let first : IsFirst opening (is_none given.known_rows) key (Some (value, stamp)) =
+    subst (IsFirst opening (is_none given.known_rows) key) (ap (entry key) (sym h.past_is) ∙ is) (h.entries key) in
     first.1 is_so ∙ ap (λ (l : List Commit). answer key (rows_after opening l)) (sym log)) shards are
 
 -- ---- the sessions of a load

@@ -65,7 +65,7 @@ pub(crate) fn warm<W: Sink, K: Keeper + Send, C: Clock, G: Gate, R: Threads + Wa
     gate: &G,
 ) -> RunEnd<K>
     requires { IsWork spec.now }
-    ensures ended { (unread : Input) (door : Told) →
+    ensures ended { (unread : Input) (door : DoorSeen) →
         let held = held_at place.now (K.holds keeper place.now) in
         let before = seen unread W.Sink K.Keeper sink.old keeper in
         let after = seen unread W.Sink K.Keeper sink.new result.keeper in
@@ -154,7 +154,7 @@ fn run_first<
     requires parts { NamesParts H.name H.parts H.word H.before H.begun H.failed ready.parts.hub }
     requires none_earlier { earlier.items ≡ [] }
     requires for_one { 1 ≤ vec_capacity earlier }
-    ensures ended { (unread : Input) (door : Told) (rows : Option Tables) (held : Held) →
+    ensures ended { (unread : Input) (door : DoorSeen) (rows : Option Tables) (held : Held) →
         IsOpened held (work_shape warming.now.spec.now) store.ledger.opening store.known_rows →
         let before = moment unread (W.taken sink.old) (W.faults sink.old) rows store.faults in
         let after = seen unread W.Sink K.Keeper sink.new result.keeper in
@@ -199,14 +199,14 @@ fn run_first<
         shards.as_slice(),
         transcripts,
     );
-    let told = tell(sink, &mut written, made);
+    let printed = tell(sink, &mut written, made);
     let first = First {
         store,
         shards,
         histories,
         earlier,
     };
-    match told {
+    match printed {
         Ok(_) => dump_first(warming, sink, first, written),
         Err(stop) => ended_first(alloc, stop_status(stop), first, written),
     }
@@ -223,7 +223,7 @@ fn dump_first<N: Start, W: Sink, K: Keeper + Send, C: Clock, G: Gate, R: Threads
     requires run { HasRunLoad warming.now.spec.now first.store first.shards.items }
     requires never_fell { ForSome N.count (λ start. start ≤ first.store.faults) }
     requires rooms { HasRooms first.shards.items first.histories first.earlier }
-    ensures ended { (unread : Input) (door : Told) (rows : Option Tables) (start : ℕ) (held : Held)
+    ensures ended { (unread : Input) (door : DoorSeen) (rows : Option Tables) (start : ℕ) (held : Held)
         (taken : Option (List ℕ)) (failed : ℕ) (found : Finding) (text : List ℕ) →
         N.count ≡ Some start →
         IsOpened held (work_shape warming.now.spec.now) first.store.ledger.opening
@@ -340,7 +340,7 @@ fn load_second<N: Start, W: Sink, K: Keeper + Send, C: Clock, G: Gate, R: Thread
     requires never_fell { ForSome N.count (λ start. start ≤ half.store.faults) }
     requires to_load { AreToLoad warming.now.spec.now (left_in half.earlier.items)
         half.store.known_rows half.store.ledger.opening dumps.items }
-    ensures ended { (unread : Input) (door : Told) (rows : Option Tables) (start : ℕ) (held : Held)
+    ensures ended { (unread : Input) (door : DoorSeen) (rows : Option Tables) (start : ℕ) (held : Held)
         (taken : Option (List ℕ)) (failed : ℕ) (opening : Tables) (text : List ℕ) →
         N.count ≡ Some start →
         IsHalf opening half.store half.earlier.items half.spent →
@@ -458,7 +458,7 @@ fn run_second<
     requires named { NamesAnew warming.now.spec.now half.store N.count H.start
         H.terms H.opening H.cap H.known_rows H.name H.parts H.word H.before H.begun H.failed
         ready.parts.hub }
-    ensures ended { (unread : Input) (door : Told) (rows : Option Tables) (start : ℕ) (held : Held)
+    ensures ended { (unread : Input) (door : DoorSeen) (rows : Option Tables) (start : ℕ) (held : Held)
         (taken : Option (List ℕ)) (failed : ℕ) (spec : WorkSpec) (opening : Tables)
         (text : List ℕ) →
         N.count ≡ Some start →
@@ -515,9 +515,9 @@ fn run_second<
         shards.as_slice(),
         transcripts,
     );
-    let told = tell_behind(sink, &mut written, made);
+    let printed = tell_behind(sink, &mut written, made);
     let spent = spent.or(first_spent(shards.as_slice()));
-    let status = end_status(store.failed() > 0, spent, told);
+    let status = end_status(store.failed() > 0, spent, printed);
     ended_hub(
         status,
         store,

@@ -175,10 +175,10 @@ returns-in-Ok-Serve-clause-earlier g c =
     earlier_ok _ c.read_words.result _ c.read_words.ensures.accepts c.read_words.ensures.read c.read_words.ensures.usage
     c.in-Ok-Serve.field-0 (words.Serve c.in-Ok-Serve.place c.in-Ok-Serve.spec) c.in-Ok-Serve.is c.in-Ok-Serve.field-0-is c.serve.ensures.none_earlier
 
-pub returns-in-Ok-Text-clause-earlier : goal.returns-in-Ok-Text-clause-earlier
-returns-in-Ok-Text-clause-earlier g c =
+pub returns-in-Ok-Page-clause-earlier : goal.returns-in-Ok-Page-clause-earlier
+returns-in-Ok-Page-clause-earlier g c =
     earlier_ok _ c.read_words.result _ c.read_words.ensures.accepts c.read_words.ensures.read c.read_words.ensures.usage
-    c.in-Ok-Text.field-0 (words.Text c.in-Ok-Text.text) c.in-Ok-Text.is c.in-Ok-Text.field-0-is c.tell.ensures.none_earlier
+    c.in-Ok-Page.field-0 (words.Page c.in-Ok-Page.text) c.in-Ok-Page.is c.in-Ok-Page.field-0-is c.tell.ensures.none_earlier
 
 pub returns-in-Err-Usage-clause-earlier : goal.returns-in-Err-Usage-clause-earlier
 returns-in-Err-Usage-clause-earlier g c =
