@@ -129,10 +129,16 @@ def kill_at_start(program, folder, times, seed):
     return f"{times} kills while a file was made, {made} behind its end"
 
 
+def is_begun(path):
+    """Whether the file is one for SQLite. In its first milliseconds it begins with another byte, beside its log."""
+    with open(path, "rb") as file:
+        return file.read(1) in (b"", b"S")
+
+
 def look_at_start(program, path):
     """Whether the file has its members. Where it hasn't, the next run makes it anew, with its own."""
     is_made = False
-    if os.path.exists(path):
+    if os.path.exists(path) and is_begun(path):
         twin = copy(path, path + ".copy")
         expect(query(twin, "PRAGMA integrity_check"), [("ok",)])
         is_made = query(twin, "SELECT count(*) FROM sqlite_schema") != [(0,)]
