@@ -24,6 +24,7 @@ from store_files import Client, Server, Wrong, copy, expect, query, replay, rows
 # So many that the names tell of each commit since the kill before.
 MEMBERS = 2000
 MADE_MEMBERS = 20000
+PAGE = 4096
 TIMES = 200
 
 
@@ -129,16 +130,16 @@ def kill_at_start(program, folder, times, seed):
     return f"{times} kills while a file was made, {made} behind its end"
 
 
-def is_begun(path):
-    """Whether the file is one for SQLite. In its first milliseconds it begins with another byte, beside its log."""
+def is_half_made(path):
+    """Whether the making of the file had only begun: it is one page at most, and begins with a zero."""
     with open(path, "rb") as file:
-        return file.read(1) in (b"", b"S")
+        return file.read(1) == b"\0" and os.path.getsize(path) <= PAGE
 
 
 def look_at_start(program, path):
     """Whether the file has its members. Where it hasn't, the next run makes it anew, with its own."""
     is_made = False
-    if os.path.exists(path) and is_begun(path):
+    if os.path.exists(path) and not is_half_made(path):
         twin = copy(path, path + ".copy")
         expect(query(twin, "PRAGMA integrity_check"), [("ok",)])
         is_made = query(twin, "SELECT count(*) FROM sqlite_schema") != [(0,)]
