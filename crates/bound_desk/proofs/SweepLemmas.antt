@@ -1,5 +1,5 @@
 -- What a sweep's pass has seen of what was found.
-use Rattle.std.proofs.Common.{ℕ, ◌≡◌, ◌==◌, ◌&&◌, Bool, true, false, List, [], ◌∷◌, Option, Some, None, refl, sym, subst, ⊎_elim}
+use Rattle.std.proofs.Common.{ℕ, ◌≡◌, ◌==◌, ◌&&◌, Bool, true, false, List, [], ◌∷◌, Option, refl, sym, subst, ⊎_elim}
 use Rattle.std.specs.List.{AllByRecursion, list_any}
 use Rattle.std.proofs.lemmas.Bool.{false≢true, and_parts, eq-eqb, eqb-true, or_cases, or_left}
 use Rattle.rows_model.specs.declared.keys.QKey.{QKey}
@@ -17,7 +17,7 @@ use Rattle.bound_hub.proofs.QuarantineLemmas.{still_over}
 use Rattle.bound_hub.proofs.SessionLemmas.{closed_is_over}
 use Rattle.bound_hub.proofs.SweepTies.{grant_goes_on}
 use Rattle.bound_desk.specs.declared.sweeps.Found.{Found}
-use Rattle.bound_desk.specs.Swept.{AreSeen, IsFoundSeen}
+use Rattle.bound_desk.specs.Swept.{AreSeen}
 
 -- what was found is seen where more is seen
 pub found_goes_on : (old new : Seen) (found : Option Found) → IsBeginning old new → AreSeen old found → AreSeen new found

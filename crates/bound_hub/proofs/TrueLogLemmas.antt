@@ -1,4 +1,5 @@
 -- The commits that are seen stay a log of which each transaction applied, and by such a log answers follow the laws of rows.
+use Rattle.std.specs.Prelude.{Option, None, IsSome, is_none}
 use Rattle.std.proofs.Common.{ℕ, zero, suc, ◌≡◌, ◌+◌, ◌≤◌, Bool, true, false, ◌||◌, ◌<◌, List, [], ◌∷◌, ◌++◌, length, take, All, Some, Result, Ok, Err, IfOk, MatchResult, add-one, refl, sym, ap, subst, ◌∙◌, ⊎_elim, arith}
 use Rattle.rows_model.specs.declared.keys.QKey.{QKey}
 use Rattle.rows_model.specs.declared.keys.Sid.{Sid}
@@ -13,6 +14,7 @@ use Rattle.rows_model.proofs.StayFitLemmas.{rows_stay}
 use Rattle.rows_model.proofs.UntouchedLemmas.{untouched_keeps}
 use Rattle.sql_keeper.specs.declared.stores.Commit.{Commit}
 use Rattle.sql_keeper.specs.declared.faults.CommitFault.{CommitFault}
+use Rattle.sql_keeper.specs.Stores.{StoreView}
 use Rattle.sql_keeper.specs.Log.{led_to, after_commit, state, rows_after}
 use Rattle.log_word.specs.declared.events.StoreEvent.{StoreEvent}
 use Rattle.log_word.specs.declared.events.StoreEvent.TheVariants as event
@@ -26,6 +28,8 @@ use Rattle.key_shard.specs.Permit.{Permit}
 use Rattle.bound_hub.specs.Knowns.{commits_of}
 use Rattle.bound_hub.specs.Facts.{answer_after}
 use Rattle.bound_hub.specs.Stores.{rows_by, with_end_of, with_keeper_call, ShowsCommit}
+use Rattle.log_word.specs.Passes.{WordView}
+use Rattle.bound_hub.specs.Ties.{IsBoundStore}
 use Rattle.bound_hub.specs.TrueLogs.{Applies, IsTrueLog, IsTrueSoFar}
 use Rattle.bound_hub.specs.Writes.{IsLawful, refreshed_by, shifted_by}
 use Rattle.bound_hub.proofs.RuledLemmas.{more_is_known}
@@ -176,3 +180,15 @@ module _ (opening : Tables) (log : List Commit) (true_log : IsTrueLog opening lo
   -- and of a count that is shifted
   pub lawful_to_shift : (key : QKey) → is_count key ≡ true → IsLawful key (answer_after opening key) (shifted_by key) log
   lawful_to_shift key counts = record { leaves = leaves_untouched key; makes = makes_shifted key counts }
+
+none_stopped : (known_rows : Option Tables) → IsSome known_rows → is_none known_rows ≡ false
+none_stopped None some = absurd cc
+none_stopped (Some rows) some = refl
+
+-- the log of a store that tells its rows, which belongs together with what was seen
+pub true_log_of : (opening : Tables) (seen : Seen) (store left : StoreView) (word : WordView) (begun failed : ℕ)
+    → IsBoundStore word begun failed store (record { word = word; seen = seen }) → IsTrueSoFar opening seen → left ≡ store → IsSome left.known_rows
+    → IsTrueLog opening left.ledger.log
+true_log_of opening seen store left word begun failed tied so_far same some =
+    let is_so : is_none store.known_rows ≡ false = none_stopped store.known_rows (subst (λ (s : StoreView). IsSome s.known_rows) same some) in
+    subst (IsTrueLog opening) (sym (ap (λ (s : StoreView). s.ledger.log) same ∙ tied.log)) (so_far (tied.stopped ∙ is_so))

@@ -8,7 +8,7 @@ ghost use Rattle.key_shard.specs.Shards.{past_of, stepped, rolled, refusal, Refu
 ghost use Rattle.log_word.specs.Views.{with_step};
 ghost use Rattle.bound_hub.specs.Gets.{got_short, IsGotFresh, IsGotHeld, IsLastStep};
 ghost use Rattle.log_word.specs.Lists.{steps_of};
-ghost use Rattle.log_word.specs.Steps.{IsBeginning, IsSound};
+ghost use Rattle.log_word.specs.Steps.{IsBeginning};
 ghost use Rattle.log_word.specs.Passes.{IsTogether};
 ghost use Rattle.shard_lock.specs.Names.{IsNamed, IsTokenOf};
 ghost use Rattle.bound_hub.specs.Ties.{IsNewShard};

@@ -1,5 +1,5 @@
 //! What a sweeper does to a shard under its lock.
-ghost use Rattle.std.specs.Prelude.{◌≡◌, ◌≢◌, true, false, Some, None, IfSome, IfNone};
+ghost use Rattle.std.specs.Prelude.{◌≡◌, ◌≢◌, true, false, None, IfSome, IfNone};
 ghost use Rattle.lease_table.specs.Expiry.{NoneDue, NoneDueBefore, StandsDue};
 ghost use Rattle.key_shard.specs.Answers.{sweep_step};
 ghost use Rattle.key_shard.specs.Dues.{first_due};

@@ -1,12 +1,12 @@
 //! A hub is taken apart: what lay under its locks, once the threads have ended.
-ghost use Rattle.std.specs.Prelude.{◌≡◌, ◌≤◌, ◌^◌, All, length, sum_by, vec_len, vec_capacity};
+ghost use Rattle.std.specs.Prelude.{◌≡◌, ◌≤◌, ◌^◌, All, IsSome, length, sum_by, vec_len, vec_capacity};
 ghost use Rattle.key_shard.specs.Answers.{Legal};
 ghost use Rattle.log_word.specs.declared.seen.Seen.{Seen};
 ghost use Rattle.log_word.specs.Steps.{IsSound, IsBeginning};
 ghost use Rattle.shard_lock.specs.Names.{AreAll, AreLegal, ArePlaced, AreTokens, IsNamed, IsNamedStore, IsTokenOf};
 ghost use Rattle.bound_hub.specs.Ties.{IsBoundShard, IsBoundStore};
 ghost use Rattle.bound_hub.specs.Parts.{IsGathered, IsLeft};
-ghost use Rattle.bound_hub.specs.TrueLogs.{IsTrueSoFar};
+ghost use Rattle.bound_hub.specs.TrueLogs.{IsTrueLog, IsTrueSoFar};
 
 use crate::bound_shards::BoundShard;
 use crate::bound_stores::BoundStore;
@@ -23,7 +23,8 @@ impl<K: Keeper, H: BoundName> BoundHub<K, H> {
     /// The store and the shards, after the threads have ended: as many as were handed in, each in its
     /// place, with a legal history that goes on from the one that it had. Each entry is of a number of
     /// commits of the log, and each later commit on its key has its quarantine standing. Where the store
-    /// tells its rows, each entry is its key's answer after so many commits, and each hit since is fresh.
+    /// tells its rows, each transaction of the log applied where it was committed, each entry is its key's
+    /// answer after so many commits, and each hit since is fresh.
     /// Each key that a commit touches was granted to its session since. It takes no lock and no memory.
     ///
     /// The passes of its callers are handed in: all that they have seen is a beginning of what happened,
@@ -36,6 +37,7 @@ impl<K: Keeper, H: BoundName> BoundHub<K, H> {
         ensures legal { AreLegal result.1.items }
         ensures kept { (seen : Seen) × IsGathered H.word.shards H.failed result.0 passes.items seen
             × All (IsLeft H.opening H.before result.0 seen) result.1.items }
+        ensures true_log { IsSome result.0.known_rows → IsTrueLog H.opening result.0.ledger.log }
     {
         let BoundHub {
             word,

@@ -1,7 +1,7 @@
 //! The hub: a lock round each shard, one round the store, and the word.
 ghost use Rattle.std.specs.Prelude.{◌≡◌, ◌+◌, ◌^◌, ◌<◌, ◌≤◌, All, MatchResult, length, is_none, vec_len, vec_capacity};
 ghost use Rattle.rows_model.specs.Placement.{shard_of};
-ghost use Rattle.shard_lock.specs.Names.{AreAll, ArePlaced, AreTokens, IsNamed, IsNamedStore, IsTokenOf};
+ghost use Rattle.shard_lock.specs.Names.{AreAll, ArePlaced, AreTokens, IsNamed, IsNamedStore};
 ghost use Rattle.log_word.specs.Views.{nothing_seen};
 ghost use Rattle.log_word.specs.Passes.{blind_pass, blind_shard_passes};
 ghost use Rattle.bound_hub.specs.Ties.{HasCount, HasSeenOnly, IsNewShard, IsNewStore};

@@ -40,6 +40,7 @@ use Rattle.run_words.specs.declared.words.WordsFault.{WordsFault}
 use Rattle.run_words.specs.declared.words.WordsFault.TheVariants as fault
 use Rattle.run_audit.specs.declared.findings.Finding.{Finding}
 use Rattle.top_run.specs.Works.{IsSummed, IsSummarized, WorkEnded}
+use Rattle.top_run.specs.Warms.{WarmEnded}
 use Rattle.core_history.specs.Machine.{terms_of}
 use Rattle.core_history.specs.Truth.{IsTruePast}
 use Rattle.top_run.specs.declared.runs.Status.{Status}
@@ -48,7 +49,7 @@ use Rattle.top_run.specs.Runs.{Prints, calls_of, AreMoves, AreFirstMoves, past_o
 use Rattle.top_run.specs.Runs.{IsCutOff, IsNotStarted, Ended}
 use Rattle.top_run.proofs.KeepLemmas.{unreversed}
 use Rattle.callers.specs.Shards.{MeetsItsFloor, HitsMeetTheirFloors}
-use Rattle.callers.specs.Runs.{IsFreshRun, IsRunAt, IsCleanLoad, IsFreshLoad, IsDoneServer, HitsHoldCommits, AreAlike}
+use Rattle.callers.specs.Runs.{IsFreshRun, IsRunAt, IsCleanLoad, IsFreshLoad, HaveTakenOverRight, IsDoneServer, HitsHoldCommits, AreAlike}
 
 -- a run that began, and did the first part of its script or all of it
 pub record Began (held : Held) (before after : Tells) (left : Left) : Type 0 where
@@ -180,6 +181,36 @@ covered-run s held before after left written h = by (began-or-not s held before 
     by (inl k) = λ place commit key at touched. absurd (none-at left.log place commit k.no_log at)
     by (inr b) = b.keeps.covered
 
+-- two loads don't end as a faulty command line
+no_usage_of_two : (spec : WorkSpec) (course : Course) → WarmEnded status.Usage spec course → ⊥
+no_usage_of_two spec course (inl first) = absurd first.stopped
+no_usage_of_two spec course (inr (inl between)) = absurd between.is_part
+no_usage_of_two spec course (inr (inr second)) = absurd second
+
+-- two loads that ended Done took over what was right
+pub two_loads_done : (ended : Status) (spec : WorkSpec) (course : Course) → WarmEnded ended spec course → ended ≡ status.Done
+    → HaveTakenOverRight spec course.after.rows course.earlier course.left
+two_loads_done ended spec course h is = by (subst (λ (e : Status). WarmEnded e spec course) is h)
+  where
+    by : WarmEnded status.Done spec course → HaveTakenOverRight spec course.after.rows course.earlier course.left
+    by (inl first) = absurd first.stopped
+    by (inr (inl between)) = absurd between.is_part
+    by (inr (inr second)) =
+        let on = second.begun in
+        record {
+          first = on.first;
+          only = on.is_first.only;
+          opening = on.opening;
+          opening_is = on.is_first.left.opening_is;
+          opening_anew = on.left.opening_is;
+          taken_over = on.taken_over;
+          covered_first = on.is_first.left.covered;
+          covered = on.left.covered;
+          fresh_first = on.is_first.left.fresh;
+          fresh = on.left.fresh;
+          hits = on.hits;
+        }
+
 -- words that are refused change nothing
 pub same_of_usage : (read : Result Words WordsFault) (ended : Status) (courses : Place → Course) → EndedAs read ended courses
     → ended ≡ status.Usage → (at : Place) × ((courses at).after ≡ (courses at).before)
@@ -189,6 +220,7 @@ same_of_usage (Ok (words.Replay at)) ended courses h is =
 same_of_usage (Ok (words.Work at spec)) ended courses h is =
     let course = courses at in
     absurd (subst (λ (e : Status). WorkEnded e spec course.held course.before course.after course.left course.written) is h.1)
+same_of_usage (Ok (words.Warm at spec)) ended courses h is = absurd (no_usage_of_two spec (courses at) (subst (λ (e : Status). WarmEnded e spec (courses at)) is h.1))
 same_of_usage (Ok (words.Serve at spec)) ended courses h is = absurd (subst (λ (e : Status). ServeEnded e spec (courses at)) is h.1)
 same_of_usage (Ok (words.Page text)) ended courses h is =
     absurd (subst (λ (e : Status). IsTextPart e text.items (h place.Fresh).1.printed) is (h place.Fresh).1.is_part)

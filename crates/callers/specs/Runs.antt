@@ -1,5 +1,5 @@
 -- What is said of whole runs to who makes them.
-use Rattle.std.specs.Prelude.{ℕ, ◌≡◌, ◌<◌, ◌≤◌, Bool, true, List, ◌∷◌, ◌++◌, length, Option, Some, IfSome, IsSome, slice_get}
+use Rattle.std.specs.Prelude.{ℕ, ◌≡◌, ◌<◌, ◌≤◌, Bool, true, List, [], ◌∷◌, ◌++◌, length, Option, Some, IfSome, IsSome, slice_get}
 use Rattle.rows_model.specs.declared.keys.QKey.{QKey}
 use Rattle.rows_model.specs.declared.keys.Sid.{Sid}
 use Rattle.std.specs.Option.{ForSome}
@@ -27,7 +27,8 @@ use Rattle.top_run.specs.Runs.{IsRead, Prints, Tells, Left}
 use Rattle.run_words.specs.Words.{most_served}
 use Rattle.door_workers.specs.Attending.{HaveEnds, IsEnough}
 use Rattle.top_run.specs.Serves.{serve_shape, serve_keep, serve_text, line_count}
-use Rattle.top_run.specs.Works.{IsLeft, IsSummarized}
+use Rattle.top_run.specs.Warms.{HaveTakenOver, HitsHaveValues}
+use Rattle.top_run.specs.Works.{IsLeft, IsSummarized, work_shape}
 
 -- A run at a fresh place, over a keeper that tells its rows for good, which began with these rows and has those at its end: it
 -- began with the rows of as many members as its script says, no hit is stale, each commit is covered, and the rows at the end
@@ -79,6 +80,23 @@ pub record IsFreshLoad (place : Place) (spec : WorkSpec) (taken_old taken_new : 
   pub covered : Covered left.log left.histories
   pub fresh : Fresh opening left.log left.histories
   pub summary_is : IsSummarized spec opening left.log left.histories taken_old taken_new written finding.Clean
+
+-- Two loads ended Done, and this was left by those that ended before the second, and by that. The second began with the rows after the
+-- first log, and each of its histories begins with the steps by which the rows were loaded that were still right in the first cache. The
+-- commits of both are covered. Where the keeper tells its rows no hit of either is stale, and a hit on such a row has its value, unless
+-- a commit of the second load touches its key.
+pub record HaveTakenOverRight (spec : WorkSpec) (rows : Option Tables) (earlier : List Left) (left : Left) : Type 0 where
+  pub first : Left
+  pub only : earlier ≡ first ∷ []
+  pub opening : Tables
+  pub opening_is : first.opening ≡ Some opening
+  pub opening_anew : left.opening ≡ Some (rows_after opening first.log)
+  pub taken_over : HaveTakenOver (work_shape spec) first.log first.histories left.histories
+  pub covered_first : Covered first.log first.histories
+  pub covered : Covered left.log left.histories
+  pub fresh_first : IsSome rows → Fresh opening first.log first.histories
+  pub fresh : IsSome rows → Fresh (rows_after opening first.log) left.log left.histories
+  pub hits : IsSome rows → HitsHaveValues first.log first.histories left.log left.histories
 
 -- A server ended Done: so many connections were served as were asked for, or the door said that no more come, as it did where no
 -- number was asked for. There is an end for each of a number of connections. The sink took all that a server writes, with the number

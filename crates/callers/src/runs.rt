@@ -2,11 +2,12 @@
 ghost use Rattle.std.specs.Prelude.{◌≡◌, ◌≢◌, ◌<◌, ◌-◌, ◌^◌, [], All, map, Some, None, IfSome, IsSome};
 ghost use Rattle.sql_keeper.specs.Fresh.{Covered};
 ghost use Rattle.top_run.specs.Runs.{told_by, moment, seen, histories_at, left_at};
+ghost use Rattle.top_run.specs.Serves.{phase_left};
 ghost use Rattle.callers.specs.Shards.{MeetsItsFloor};
 ghost use Rattle.std.specs.Option.{ForSome};
 ghost use Rattle.sql_keeper.specs.declared.keepers.Place.{Place};
 ghost use Rattle.rows_model.specs.Rows.{Tables};
-ghost use Rattle.callers.specs.Runs.{IsFreshRun, IsRunAt, IsCleanLoad, IsFreshLoad, IsDoneServer, HitsHoldCommits, IsUnharmed, AreAlike, IsBeginning};
+ghost use Rattle.callers.specs.Runs.{IsFreshRun, IsRunAt, IsCleanLoad, IsFreshLoad, HaveTakenOverRight, IsDoneServer, HitsHoldCommits, IsUnharmed, AreAlike, IsBeginning};
 ghost use Rattle.run_inputs.specs.declared.loads.WorkSpec.{WorkSpec};
 ghost use Rattle.run_words.specs.Words.{AreWords};
 ghost use Rattle.run_words.specs.declared.words.ServeSpec.{ServeSpec};
@@ -202,6 +203,36 @@ pub fn run_load<
         let before = seen (told_by S.Source source.old) W.Sink K.Keeper sink.old keeper in
         let after = seen (told_by S.Source source.new) W.Sink K.Keeper sink.new result.keeper in
         IsCleanLoad place spec before after (left_at result) result.written }
+{
+    run(rt, alloc, words, source, sink, keeper, door, clock, gate)
+}
+
+/// Two loads that end Done: the second took over exactly what was still right in the first one's cache. Where the
+/// keeper tells its rows neither left anything stale, and a hit on what was taken over has the value that the
+/// first cache held, unless the second load wrote to its key.
+pub fn run_two_loads<
+    S: Source,
+    W: Sink,
+    K: Keeper + Send,
+    D: Door,
+    C: Clock,
+    G: Gate,
+    R: Threads + Wait + Sync,
+>(
+    rt: &R,
+    alloc: Global,
+    words: &[Vec<u8>],
+    source: &mut S,
+    sink: &mut W,
+    keeper: K,
+    door: &mut D,
+    clock: &C,
+    gate: &G,
+) -> RunEnd<K>
+    ensures { (place : Place) (spec : WorkSpec) →
+        AreWords (map (λ word. word.items) words.now) (Words.Warm place spec) →
+        result.status ≡ Status.Done → HaveTakenOverRight spec (K.rows result.keeper)
+        (map phase_left result.earlier.items) (left_at result) }
 {
     run(rt, alloc, words, source, sink, keeper, door, clock, gate)
 }

@@ -1,5 +1,5 @@
 // The change that three words say, and the transaction of changes.
-ghost use Rattle.std.specs.Prelude.{◌≡◌, ◌≢◌, ℕ, IfSome, IfNone, IfOk, codes};
+ghost use Rattle.std.specs.Prelude.{◌≡◌, ◌≢◌, IfSome, IfNone, IfOk, codes};
 ghost use Rattle.std.specs.Bool.{MatchBool};
 ghost use Rattle.rows_model.specs.declared.changes.Change.{Change};
 ghost use Rattle.rows_model.specs.Changes.{IsTxn};

@@ -1,6 +1,5 @@
 // The id of a member that a word is.
 ghost use Rattle.std.specs.Prelude.{◌≡◌, ℕ, IfSome, IfNone};
-ghost use Rattle.rows_model.specs.Shift.{number_in};
 ghost use Rattle.change_words.specs.Txns.{IsId};
 
 use rows_model::number_of;

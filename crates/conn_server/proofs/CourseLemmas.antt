@@ -26,7 +26,7 @@ use Rattle.conn_server.specs.Outgoing.{response_text, plain_calls_of, plain_call
 use Rattle.conn_server.specs.Clients.{newcomer}
 use Rattle.conn_server.specs.Answers.{ItemAnswers, AllAnswer, GivenUp, with_calls}
 use Rattle.conn_server.specs.Service.{budget, texts, IsWithin, Lasts, place_of, TookSome, TookToFault, EndsSo, NoneLeft, IsServed, CountsWrites, tended_by}
-use Rattle.conn_server.specs.Outbox.{Sends, SendsSome, Stops, Flushes, Finishes}
+use Rattle.conn_server.specs.Outbox.{Sends, SendsSome, Flushes, Finishes}
 use Rattle.conn_server.specs.Course.{most_reads, DeskSide, IsUnserved, Start, Done, Course, CountsAt, Ending, Tells, Shuts}
 use Rattle.conn_server.proofs.ClosingLemmas.{with_calls-append}
 use Rattle.conn_server.proofs.HeldLemmas.{only_writers_hold}

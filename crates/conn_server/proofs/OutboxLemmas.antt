@@ -5,7 +5,7 @@ use Rattle.std.specs.List.{flat_map}
 use Rattle.std.proofs.lemmas.Grind.{flat_map-append}
 use Rattle.std.proofs.lemmas.List.{take-append-drop}
 use Rattle.iq_outside.specs.Outside.{Rose, WriteSide}
-use Rattle.iq_outside.proofs.OutsideLemmas.{Gains-append, Gains-none, Rose-later, Rose-earlier}
+use Rattle.iq_outside.proofs.OutsideLemmas.{Gains-append, Gains-none, Rose-later}
 use Rattle.mc_text.specs.PlainReplies.{item_text, items_text, plain_text}
 use Rattle.mc_text.specs.declared.plain_replies.Found.{Found}
 use Rattle.mc_text.specs.declared.plain_replies.PlainReply.{PlainReply}
@@ -13,7 +13,7 @@ use Rattle.mc_text.specs.declared.plain_replies.PlainReply.TheVariants as PlainR
 use Rattle.conn_server.specs.declared.ends.LineEnd.{LineEnd}
 use Rattle.conn_server.specs.declared.ends.LineEnd.TheVariants as ends
 use Rattle.conn_server.specs.declared.outgoing.Response.{Response}
-use Rattle.conn_server.specs.declared.outgoing.Response.TheVariants.{Lease, Plain}
+use Rattle.conn_server.specs.declared.outgoing.Response.TheVariants.{Plain}
 use Rattle.conn_server.specs.Outgoing.{response_text, end_text, HasNoItem}
 use Rattle.conn_server.specs.Outbox.{IsPiece, WaitsFew, Sends, SendsSome, Stops, Puts, Flushes}
 

@@ -1,5 +1,4 @@
 ghost use Rattle.std.specs.Prelude.{◌≡◌, ◌+◌, ◌<◌, ◌≤◌, ℕ, true, false, [], length, IfOk, IfErr, OnOk};
-ghost use Rattle.iq_outside.specs.Outside.{Rose, ReadSide, WriteSide};
 ghost use Rattle.mixed_lines.specs.Items.{IsOpen};
 ghost use Rattle.session_client.specs.Desks.{one_more};
 ghost use Rattle.conn_server.specs.Answers.{GivenUp};

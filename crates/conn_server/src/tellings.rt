@@ -7,7 +7,7 @@ ghost use Rattle.session_client.specs.Belongs.{Belongs};
 ghost use Rattle.session_client.specs.declared.replies.Wanted.TheVariants as wanted;
 ghost use Rattle.mc_text.specs.declared.commands.Command.TheVariants as commands;
 ghost use Rattle.mc_text.specs.declared.replies.LineReply.TheVariants as LineReply;
-ghost use Rattle.conn_server.specs.Requests.{fault_reply, got_reply, set_reply, after_reply, commit_reply, told_of, grants_heard};
+ghost use Rattle.conn_server.specs.Requests.{fault_reply, got_reply, after_reply, commit_reply, told_of, grants_heard};
 ghost use Rattle.conn_server.specs.Tellings.{granted_as, quarantine_as, release_as};
 
 use key_shard::{Blocker, Got, Grant, QAnswer, Rel, SetAnswer};

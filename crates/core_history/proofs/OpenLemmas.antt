@@ -11,7 +11,6 @@ use Rattle.sql_keeper.specs.declared.stores.Commit.{Commit}
 use Rattle.sql_keeper.specs.declared.stores.Phase.{Phase}
 use Rattle.sql_keeper.specs.declared.stores.Phase.TheVariants.{Committed, Ended}
 use Rattle.sql_keeper.specs.Sessions.{may_commit as may, is_open as may_commit, with_phase, ended}
-use Rattle.expiry_sweeper.specs.declared.replies.SweepReply.TheVariants as sweeps
 use Rattle.expiry_sweeper.specs.declared.replies.SweepWanted.TheVariants as sweep
 use Rattle.session_client.specs.Grants.{GrantsView}
 use Rattle.session_client.specs.declared.replies.Reply.TheVariants as Reply

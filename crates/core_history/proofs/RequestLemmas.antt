@@ -1,5 +1,5 @@
 -- A request that was made on the shard of its key is the machine's event.
-use Rattle.std.proofs.Common.{ℕ, zero, suc, ◌≡◌, ◌<◌, ◌-◌, ◌^◌, ◌==◌, ◌&&◌, ◌⊎◌, pos, Bool, true, false, List, [], ◌∷◌, Option, Some, None, Result, Ok, Err}
+use Rattle.std.proofs.Common.{ℕ, zero, suc, ◌≡◌, ◌<◌, ◌-◌, ◌^◌, ◌==◌, ◌&&◌, ◌⊎◌, pos, Bool, true, false, List, [], ◌∷◌, Some, None, Result, Ok, Err}
 use Rattle.std.proofs.Common.{length, get_or, slice_get, refl, sym, ap, subst, set, inl, inr, arith, ◌∙◌}
 use Rattle.std.proofs.lemmas.Bool.{eqb-true, false≢true}
 use Rattle.std.proofs.lemmas.List.{reverse-reverse}
@@ -30,7 +30,7 @@ use Rattle.session_client.specs.declared.replies.Reply.{Reply}
 use Rattle.session_client.specs.declared.replies.Reply.TheVariants as Reply
 use Rattle.session_client.specs.declared.replies.Wanted.{Wanted}
 use Rattle.session_client.specs.declared.replies.Wanted.TheVariants as wanted
-use Rattle.executor.specs.OnShard.{is_spent, TellsGot, TellsSet, TellsQuarantine, TellsRelease, TellsPut, TellsRaise, TellsRenewal, MakesOnShard}
+use Rattle.executor.specs.OnShard.{TellsGot, TellsSet, TellsQuarantine, TellsRelease, TellsPut, TellsRaise, TellsRenewal, MakesOnShard}
 use Rattle.executor.specs.Requests.{key_of}
 use Rattle.core_history.specs.Cores.{HasShards, HasHome}
 use Rattle.core_history.specs.Events.{Event, steps_of, now_of, reply_in}

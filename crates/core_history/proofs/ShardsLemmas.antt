@@ -1,7 +1,7 @@
 -- How the shards of a core follow an event.
 use Rattle.std.proofs.Common.{ℕ, zero, suc, ◌+◌, ◌-◌, ◌^◌, ◌≡◌, ◌≢◌, ◌<◌, ◌≤◌, ◌==◌, ◌&&◌, Bool, true, false, cond, List, [], ◌∷◌, ◌++◌}
-use Rattle.std.proofs.Common.{length, reverse, Option, Some, None, Err, option_to_list, slice_get, get_or, set, refl, sym, ap, subst, ◌∙◌, inl, inr}
-use Rattle.std.proofs.Common.{⊎_elim, ◌⊎◌, length-append, arith, rules, eq-eqb}
+use Rattle.std.proofs.Common.{length, reverse, Option, Some, None, option_to_list, slice_get, get_or, set, refl, sym, ap, subst, ◌∙◌, inl, inr}
+use Rattle.std.proofs.Common.{⊎_elim, ◌⊎◌, length-append, arith, eq-eqb}
 use Rattle.std.proofs.lemmas.Bool.{eqb-true, cases_Bool, cases_lt, false≢true}
 use Rattle.std.proofs.lemmas.List.{reverse-reverse, reverse-append}
 use Rattle.std.proofs.lemmas.List.Sums.{count_by-le-length}
@@ -15,11 +15,9 @@ use Rattle.lease_table.specs.declared.records.Quar.{Quar}
 use Rattle.key_shard.specs.declared.steps.Ended.TheVariants.{Drop}
 use Rattle.key_shard.specs.declared.steps.Step.{Step}
 use Rattle.key_shard.specs.declared.steps.Step.TheVariants.{Released}
-use Rattle.key_shard.specs.declared.replies.ShardFault.{ShardFault}
-use Rattle.key_shard.specs.declared.replies.ShardFault.TheVariants as faults
 use Rattle.key_shard.specs.Past.{Terms, draws, quar_of, next_token}
 use Rattle.key_shard.specs.Answers.{IsAtHome, sweep_step}
-use Rattle.key_shard.specs.Shards.{ShardView, past_of, rolled, swept, refusal, spent_at, Refuses}
+use Rattle.key_shard.specs.Shards.{ShardView, past_of, rolled, swept}
 use Rattle.key_shard.proofs.SweepLemmas.{sweep_by}
 use Rattle.expiry_sweeper.specs.declared.replies.SweepReply.{SweepReply}
 use Rattle.expiry_sweeper.specs.declared.replies.SweepWanted.{SweepWanted}

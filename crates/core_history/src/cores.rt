@@ -1,4 +1,4 @@
-ghost use Rattle.std.specs.Prelude.{◌≡◌, ◌≢◌, ℕ, ◌+◌, ◌<◌, ◌≤◌, ◌^◌, ◌∷◌, ◌⊎◌, [], List, length, slice_get, Some, map, IfOk, IfErr, OnOk, OnErr, MatchResult, IsSome};
+ghost use Rattle.std.specs.Prelude.{◌≡◌, ◌≢◌, ◌+◌, ◌<◌, ◌≤◌, ◌^◌, ◌∷◌, ◌⊎◌, [], List, length, slice_get, Some, IfOk, IfErr, OnOk, OnErr, MatchResult, IsSome};
 ghost use Rattle.std.specs.Option.{ForSome};
 ghost use Rattle.rows_model.specs.Rows.{start_tables};
 ghost use Rattle.session_client.specs.declared.plans.Turn.{Turn};

@@ -2,7 +2,7 @@
 ghost use Rattle.std.specs.Prelude.{◌≡◌, ◌∷◌, ◌++◌, [], IfOk, OnOk, codes, decimal};
 ghost use Rattle.std.specs.Fmt.{signed_decimal};
 ghost use Rattle.rows_model.specs.Key.{key_text};
-ghost use Rattle.core_history.specs.Lines.{line, printed_value, request_words, reply_words, stands_word, mode_word, evicts_words, got_words, set_words, old_words, brought_words, quarantine_words, commit_fault_words, staged_fault_words, open_words, release_words, raising_words, renewal_words, fault_words, tells_fault};
+ghost use Rattle.core_history.specs.Lines.{line, printed_value, request_words, reply_words, stands_word, mode_word, evicts_words, got_words, set_words, old_words, brought_words, quarantine_words, commit_fault_words, staged_fault_words, open_words, release_words, raising_words, renewal_words, tells_fault};
 ghost use Rattle.core_history.specs.Words.{spaced};
 
 use executor::Request;

@@ -1,6 +1,5 @@
 // A step of the sweeper: what it wants is made on a shard or at the store, and its line written.
 ghost use Rattle.std.specs.Prelude.{◌≡◌, ◌≤◌, ◌<◌, None, length};
-ghost use Rattle.key_shard.specs.Dues.{first_due};
 ghost use Rattle.session_client.specs.declared.plans.Shape.{Shape};
 ghost use Rattle.expiry_sweeper.specs.declared.replies.SweepWanted.TheVariants as sweep;
 ghost use Rattle.expiry_sweeper.specs.Follows.{shards_of, wanted_of};

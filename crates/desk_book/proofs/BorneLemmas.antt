@@ -1,5 +1,5 @@
 -- What a session that writes wants is borne out by its book.
-use Rattle.std.proofs.Common.{ℕ, zero, suc, ◌≡◌, ◌<◌, Bool, true, false, List, [], ◌∷◌, length, map, drop, count_by, Option, Some, None, is_some, slice_get}
+use Rattle.std.proofs.Common.{ℕ, zero, suc, ◌≡◌, ◌<◌, Bool, true, false, List, [], ◌∷◌, length, map, drop, Option, Some, None, is_some, slice_get}
 use Rattle.std.proofs.Common.{get_or, refl, sym, ap, subst, ◌∙◌, arith, All}
 use Rattle.std.specs.List.{Any}
 use Rattle.std.specs.Prelude.{IsTrue, IsSomeAnd}
@@ -17,14 +17,14 @@ use Rattle.session_client.specs.declared.replies.Reply.TheVariants as Reply
 use Rattle.session_client.specs.declared.replies.Wanted.{Wanted}
 use Rattle.session_client.specs.declared.replies.Wanted.TheVariants as wanted
 use Rattle.session_client.specs.Wants.{Given, given, granted, number_of, released, turned, write_wants, Writing, quarantine_as, commit_with, new_value, release_next}
-use Rattle.session_client.specs.Wants.{Release, Keeps, Drops, Finishes, release_by, release_after, release_of}
-use Rattle.session_client.proofs.WantCases.{is_asking, is_ending, asking-goes, write_cases, permits, granted-given}
+use Rattle.session_client.specs.Wants.{Keeps, release_by, release_after, release_of}
+use Rattle.session_client.proofs.WantCases.{is_ending, asking-goes, write_cases, permits, granted-given}
 use Rattle.desk_book.specs.declared.facts.Committed.{Committed}
 use Rattle.desk_book.specs.Books.{Book, Held, may_write}
-use Rattle.desk_book.specs.Borne.{IsBorne, IsPresent, IsOwn, IsDone, MayQuarantine, Holds, Refreshes, Shifts}
+use Rattle.desk_book.specs.Borne.{IsBorne, IsPresent, IsDone, MayQuarantine, Holds, Refreshes, Shifts}
 use Rattle.desk_book.proofs.ListLemmas.{each-at, any-here, any-later, drop_at}
 use Rattle.desk_book.proofs.GivenLemmas.{held_of, given-at}
-use Rattle.desk_book.proofs.WriterLemmas.{IsBooked, IsNumbered, is-now, commit_in, goes-on, is_over, came_back}
+use Rattle.desk_book.proofs.WriterLemmas.{IsBooked, IsNumbered, is-now, commit_in, goes-on, came_back}
 use Rattle.desk_book.proofs.WriterSteps.{IsUnended}
 
 -- each grant of a list is held where the list is held

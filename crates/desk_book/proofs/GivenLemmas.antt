@@ -1,9 +1,8 @@
 -- The grants that a session was given, as a book holds them.
-use Rattle.std.proofs.Common.{ℕ, ℤ, pos, zero, suc, ◌≡◌, Bool, true, false, cond, List, [], ◌∷◌, ◌++◌, map, drop, set, Option, Some, slice_get}
-use Rattle.std.proofs.Common.{refl, sym, ap, subst, ◌∙◌}
+use Rattle.std.proofs.Common.{ℕ, pos, zero, suc, ◌≡◌, false, cond, List, [], ◌∷◌, ◌++◌, map, drop, set, Option, Some, slice_get}
+use Rattle.std.proofs.Common.{refl, sym, ap, ◌∙◌}
 use Rattle.std.specs.List.{AllByRecursion, remove}
 use Rattle.std.proofs.lemmas.Option.{same_Some, none-some}
-use Rattle.rows_model.specs.declared.keys.QKey.{QKey}
 use Rattle.rows_model.specs.declared.changes.Change.{Change}
 use Rattle.key_shard.specs.Permit.{Permit, same_permit}
 use Rattle.key_shard.proofs.OutLemmas.{same_permit-true}

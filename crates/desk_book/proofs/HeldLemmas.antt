@@ -1,5 +1,5 @@
 -- The grants that are held after a raise and after a release, by the place of the one that it is about.
-use Rattle.std.proofs.Common.{ℕ, ℤ, pos, zero, suc, ◌≡◌, ◌<◌, ◌≤◌, nat_lt, Bool, true, false, cond, List, [], ◌∷◌, length, set, Option, Some, None, get_or, position}
+use Rattle.std.proofs.Common.{ℕ, pos, zero, suc, ◌≡◌, ◌<◌, ◌≤◌, nat_lt, Bool, true, false, cond, List, [], ◌∷◌, length, set, Option, Some, None, get_or, position}
 use Rattle.std.specs.List.{position_or_len}
 use Rattle.std.proofs.Common.{refl, sym, ap, ◌∙◌, arith}
 use Rattle.std.specs.List.{remove, Any, list_any, list_all}

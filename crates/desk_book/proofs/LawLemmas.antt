@@ -7,12 +7,11 @@ use Rattle.rows_model.specs.declared.keys.Sid.{Sid}
 use Rattle.session_client.specs.declared.plans.Plan.{Plan}
 use Rattle.session_client.specs.declared.plans.Plan.TheVariants.{Read, Write, Look, Quit, Skip, Raise, Renew}
 use Rattle.session_client.specs.declared.replies.Reply.{Reply}
-use Rattle.session_client.specs.declared.replies.Wanted.{Wanted}
-use Rattle.session_client.specs.Desks.{Exchange, Began, Asked}
+use Rattle.session_client.specs.Desks.{Exchange}
 use Rattle.session_client.specs.Plans.{writes}
 use Rattle.session_client.specs.Wants.{wants, write_wants, Writing, writing_of}
 use Rattle.session_client.proofs.WantCases.{plan-once}
-use Rattle.desk_book.specs.Books.{Book, first_book, noted_for}
+use Rattle.desk_book.specs.Books.{first_book}
 use Rattle.desk_book.specs.Heard.{note_of, book_of}
 use Rattle.desk_book.specs.Borne.{IsBorne}
 use Rattle.desk_book.specs.Laws.{HasAsked, WantsAreBorne}

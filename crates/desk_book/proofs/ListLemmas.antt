@@ -1,5 +1,5 @@
 -- What holds of each of a list, or of one, and lists with one more, one less or one changed.
-use Rattle.std.proofs.Common.{ℕ, zero, suc, ◌≡◌, ◌+◌, ◌<◌, Bool, true, false, ◌&&◌, List, [], ◌∷◌, ◌++◌, ◌-◌, length, take, drop, set, Option, Some, slice_get}
+use Rattle.std.proofs.Common.{ℕ, zero, suc, ◌≡◌, ◌+◌, ◌<◌, Bool, true, false, ◌&&◌, List, [], ◌∷◌, ◌++◌, ◌-◌, length, take, drop, set, Some, slice_get}
 use Rattle.std.proofs.Common.{get_or, refl, sym, ap, subst, ◌∙◌, ◌⊎◌, inl, inr, arith}
 use Rattle.std.specs.List.{AllByRecursion, Any, remove}
 use Rattle.std.specs.Prelude.{◌≤◌, IsTrue, IfOk, ◌↔◌, Result, Ok, Err}

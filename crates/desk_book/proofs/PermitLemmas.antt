@@ -7,7 +7,6 @@ use Rattle.lease_table.specs.Leases.{way_of}
 use Rattle.lease_table.specs.declared.records.Mode.{Mode}
 use Rattle.lease_table.specs.declared.records.Mode.TheVariants.{Invalidate, Refresh, Delta}
 use Rattle.key_shard.specs.Permit.{Permit, same_permit}
-use Rattle.key_shard.proofs.OutLemmas.{same_permit-true}
 use Rattle.session_client.specs.Belongs.{IsRaised}
 use Rattle.desk_book.specs.Books.{raised}
 use Rattle.desk_book.proofs.ListLemmas.{both}

@@ -1,7 +1,6 @@
 -- When a release with a new value is borne out.
-use Rattle.std.proofs.Common.{ℕ, ◌≡◌, Bool, List, Some, sym, subst, refl, ap, ◌∙◌}
+use Rattle.std.proofs.Common.{ℕ, ◌≡◌, Bool, List, Some, sym, subst, ◌∙◌}
 use Rattle.std.specs.Prelude.{IsTrue, IfOk, ◌↔◌, Result, IsSomeAnd}
-use Rattle.std.proofs.lemmas.Option.{same_Some}
 use Rattle.rows_model.specs.declared.keys.Sid.{Sid}
 use Rattle.rows_model.specs.declared.refusals.Memory.{Memory}
 use Rattle.rows_model.specs.declared.changes.Change.{Change}

@@ -10,7 +10,6 @@ use Rattle.key_shard.specs.declared.replies.Got.TheVariants as got
 use Rattle.sql_keeper.specs.declared.stores.Answer.{Answer}
 use Rattle.session_client.specs.declared.replies.Reply.{Reply}
 use Rattle.session_client.specs.declared.replies.Reply.TheVariants as Reply
-use Rattle.session_client.specs.declared.replies.Wanted.{Wanted}
 use Rattle.session_client.specs.declared.replies.Wanted.TheVariants as wanted
 use Rattle.session_client.specs.Belongs.{Belongs}
 use Rattle.session_client.specs.Wants.{read_wants}

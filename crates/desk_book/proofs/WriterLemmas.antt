@@ -14,7 +14,6 @@ use Rattle.session_client.specs.declared.replies.Wanted.TheVariants as wanted
 use Rattle.session_client.specs.Wants.{Given, given, given_by, given_in, is_had, is_release, number_of, released, turned, write_wants, Writing}
 use Rattle.session_client.proofs.WantCases.{is_ending}
 use Rattle.desk_book.specs.declared.facts.Committed.{Committed}
-use Rattle.desk_book.specs.declared.facts.Present.{Present}
 use Rattle.desk_book.specs.Books.{Book, is_of, is_present, noted_for}
 use Rattle.desk_book.proofs.GivenLemmas.{held_of, Apart}
 use Rattle.desk_book.proofs.ListLemmas.{each-weaker}

@@ -1,10 +1,9 @@
 -- Each reply that a session that writes is told leaves the book as it has to be.
-use Rattle.std.proofs.Common.{ℕ, ℤ, pos, zero, suc, ◌≡◌, ◌<◌, Bool, true, false, cond, List, [], ◌∷◌, ◌++◌, length, map, drop, set, count_by, Option, Some, None, slice_get}
+use Rattle.std.proofs.Common.{ℕ, ℤ, pos, suc, ◌≡◌, ◌<◌, Bool, true, false, List, [], ◌∷◌, ◌++◌, length, map, drop, set, count_by, Option, Some, None, slice_get}
 use Rattle.std.proofs.Common.{append-nil, refl, sym, ap, subst, ◌∙◌, arith}
 use Rattle.std.specs.List.{AllByRecursion, remove}
 use Rattle.std.proofs.lemmas.Bool.{false≢true}
 use Rattle.std.proofs.lemmas.List.{map-append}
-use Rattle.std.proofs.lemmas.Option.{same_Some, none-some}
 use Rattle.rows_model.specs.declared.keys.QKey.{QKey}
 use Rattle.rows_model.specs.declared.keys.Sid.{Sid}
 use Rattle.rows_model.specs.declared.changes.Change.{Change}
@@ -26,12 +25,12 @@ use Rattle.session_client.specs.declared.replies.Reply.TheVariants as Reply
 use Rattle.session_client.specs.declared.replies.Wanted.{Wanted}
 use Rattle.session_client.specs.declared.replies.Wanted.TheVariants as wanted
 use Rattle.session_client.specs.Wants.{Given, given, granted, is_had, is_release, number_of, released, turned, write_wants, Writing, quarantine_as, commit_with, new_value}
-use Rattle.session_client.proofs.WantCases.{AreOnce, is_asking, is_ending, asking-goes, write_cases, permits, granted-given}
+use Rattle.session_client.proofs.WantCases.{AreOnce, is_ending, asking-goes, write_cases, granted-given}
 use Rattle.desk_book.specs.Books.{Book, Held, all_raised, all_but, with_grant, without_grant, with_commit, with_end}
 use Rattle.desk_book.specs.Heard.{note_of}
 use Rattle.desk_book.proofs.ListLemmas.{each-push, each-set, each-remove, each-at, each-weaker}
 use Rattle.desk_book.proofs.GivenLemmas.{held_of, Apart, apart-push, apart-set, apart-remove, given-at, raised-at, spent-at, released-at}
-use Rattle.desk_book.proofs.WriterLemmas.{IsBooked, WasAsked, IsNumbered, IsMild, IsAlike, alike, mild, stays, commit_in, count-more, same-count, asked-more, is_over, came_back, goes-on}
+use Rattle.desk_book.proofs.WriterLemmas.{IsBooked, WasAsked, IsMild, alike, mild, stays, count-more, same-count, asked-more, goes-on}
 
 -- nothing is committed and nothing released
 abbrev pub IsUnended : List Reply → Type 0

@@ -1,5 +1,5 @@
 -- Which requests a book bears out, and in which form a request is made that it doesn't.
-use Rattle.std.specs.Prelude.{ℕ, ◌≡◌, ◌↔◌, true, ◌&&◌, Bool, if◌then◌else◌, List, Option, Some, None, is_some, IsSomeAnd, All, IsTrue}
+use Rattle.std.specs.Prelude.{ℕ, ◌≡◌, ◌↔◌, true, ◌&&◌, if◌then◌else◌, List, Some, None, is_some, IsSomeAnd, All, IsTrue}
 use Rattle.std.specs.List.{Any}
 use Rattle.rows_model.specs.declared.keys.Sid.{Sid}
 use Rattle.rows_model.specs.declared.changes.Change.{Change}

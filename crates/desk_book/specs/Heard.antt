@@ -1,6 +1,5 @@
 -- What a reply adds to the book, and the book of a session's calls.
-use Rattle.std.specs.Prelude.{ℕ, ℤ, pos, ◌≡◌, List, [], ◌∷◌}
-use Rattle.rows_model.specs.declared.keys.Sid.{Sid}
+use Rattle.std.specs.Prelude.{ℤ, pos, ◌≡◌, List, [], ◌∷◌}
 use Rattle.key_shard.specs.declared.replies.Got.TheVariants as got
 use Rattle.key_shard.specs.declared.replies.QAnswer.TheVariants as quarantine
 use Rattle.key_shard.specs.declared.replies.Raising.TheVariants as raising

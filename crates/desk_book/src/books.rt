@@ -1,4 +1,4 @@
-ghost use Rattle.std.specs.Prelude.{◌≡◌, ◌≤◌, ◌<◌, ℤ, length, OnOk, OnErr};
+ghost use Rattle.std.specs.Prelude.{◌≡◌, ◌≤◌, ◌<◌, length, OnOk};
 ghost use Rattle.desk_book.specs.Books.{empty_book, first_book, is_present, is_on, noted_for, with_lease, with_answer, with_grant, with_raised, without_grant, with_commit, with_end, most_answers};
 
 use crate::facts::{Committed, Leased, Present};

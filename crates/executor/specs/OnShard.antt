@@ -1,5 +1,5 @@
 -- What a request makes of the shard that it is on, and what its session is told.
-use Rattle.std.specs.Prelude.{ℕ, ◌≡◌, ◌-◌, ◌^◌, Bool, ◌==◌, ◌&&◌, IsTrue, MatchBool, Option, Some, None}
+use Rattle.std.specs.Prelude.{ℕ, ◌≡◌, ◌-◌, ◌^◌, Bool, ◌==◌, ◌&&◌, IsTrue, MatchBool, Some, None}
 use Rattle.std.specs.Bool.{IsFalse}
 use Rattle.rows_model.specs.declared.keys.Sid.{Sid}
 use Rattle.key_shard.specs.Answers.{IsAtHome, get_step, set_step, raise_step, renew_step}

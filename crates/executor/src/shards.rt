@@ -4,12 +4,12 @@ ghost use Rattle.rows_model.specs.Delta.{is_count};
 ghost use Rattle.key_shard.specs.Answers.{IsAtHome, get_step, set_step, raise_step, renew_step};
 ghost use Rattle.key_shard.specs.Replies.{ShowsQuarantine};
 ghost use Rattle.key_shard.specs.Shards.{past_of, rolled, stepped, refusal, Refuses};
-ghost use Rattle.session_client.specs.Belongs.{Belongs, IsShardFault};
+ghost use Rattle.session_client.specs.Belongs.{Belongs};
 ghost use Rattle.session_client.specs.Desks.{IsProper};
 ghost use Rattle.session_client.specs.declared.replies.Reply.TheVariants as Reply;
 ghost use Rattle.session_client.specs.declared.replies.Wanted.TheVariants as wanted;
-ghost use Rattle.write_ops.specs.Releases.{qa_step, read_step, delta_step, dar_step, abort_step, sar_step, apply_step};
-ghost use Rattle.executor.specs.OnShard.{IsFor, fault_of, MakesOnShard, TellsGot, TellsSet, TellsQuarantine, TellsRelease, TellsPut, TellsRaise, TellsRenewal};
+ghost use Rattle.write_ops.specs.Releases.{qa_step, read_step, delta_step, sar_step};
+ghost use Rattle.executor.specs.OnShard.{IsFor, fault_of, MakesOnShard, TellsGot, TellsSet, TellsQuarantine, TellsPut, TellsRaise, TellsRenewal};
 
 use key_shard::{Back, Grant, QAnswer, Shard, ShardFault};
 use lease_table::Mode;

@@ -1,9 +1,8 @@
 // Requests at a store that is lent, each one call of it.
-ghost use Rattle.std.specs.Prelude.{◌≡◌, ◌≤◌, MatchResult};
+ghost use Rattle.std.specs.Prelude.{◌≡◌, ◌≤◌};
 ghost use Rattle.session_client.specs.Belongs.{Belongs};
-ghost use Rattle.session_client.specs.Desks.{IsProper};
 ghost use Rattle.session_client.specs.declared.replies.Wanted.TheVariants as wanted;
-ghost use Rattle.executor.specs.OnStore.{IsAtStore, MakesAtStore, TellsAnswer, TellsStaged, TellsCommit, TellsEnd};
+ghost use Rattle.executor.specs.OnStore.{IsAtStore, MakesAtStore, TellsAnswer, TellsStaged, TellsCommit};
 
 use rows_model::{QKey, Sid, Txn};
 use session_client::{Fault, Grants, Reply, Wanted};

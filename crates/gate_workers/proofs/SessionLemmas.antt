@@ -1,6 +1,6 @@
 -- A session under way: how it begins, goes on and ends, with its calls and its marks.
 use Rattle.std.proofs.Common.{◌≡◌, ◌≢◌, if◌then◌else◌, Bool, true, false, List, [], ◌∷◌, ◌++◌, Option, Some, None, Result, Ok, Err}
-use Rattle.std.proofs.Common.{MatchResult, OnErr, refl, sym, ap, subst, ◌∙◌, inl, inr, ℕ, ◌+◌, length, length-append, arith}
+use Rattle.std.proofs.Common.{MatchResult, OnErr, refl, sym, ap, subst, ◌∙◌, inl, inr, ◌+◌, length, length-append, arith}
 use Rattle.rows_model.specs.declared.keys.Sid.{Sid}
 use Rattle.rows_model.specs.declared.refusals.Memory.{Memory}
 use Rattle.session_client.specs.Belongs.{Belongs}

@@ -1,4 +1,4 @@
-ghost use Rattle.std.specs.Prelude.{◌≡◌, ◌<◌, All, List, map, length, IfOk};
+ghost use Rattle.std.specs.Prelude.{◌≡◌, ◌<◌, All, map, length, IfOk};
 ghost use Rattle.std.specs.Thread.{IsSync};
 ghost use Rattle.session_client.specs.Plans.{IsPlan};
 ghost use Rattle.gate_workers.specs.Rows.{desk_view, IsWork, AllWork, HasWorked, AllWorked, AreJoined};

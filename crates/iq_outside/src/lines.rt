@@ -1,4 +1,4 @@
-ghost use Rattle.std.specs.Prelude.{◌≡◌, ℕ, Bool, true, Option, List, IsSome};
+ghost use Rattle.std.specs.Prelude.{◌≡◌, Bool, true, IsSome};
 
 use crate::sinks::Sink;
 use crate::sources::Source;
@@ -13,8 +13,6 @@ use crate::sources::Source;
 /// A caller that knows no more of a line than this trait has from a read that `write_side` is as
 /// before, and from a write that `read_side` is. The laws `writing` and `reading` say what these are.
 pub trait Line: Source + Sink {
-    ghost use Rattle.iq_outside.specs.Outside.{ReadSide, WriteSide};
-
     ghost finished: { Self → Bool };
 
     /// Ends the connection for the peer. It can't fail, isn't counted, and takes no memory. The bytes

@@ -1,5 +1,5 @@
-ghost use Rattle.std.specs.Prelude.{◌≡◌, ℕ, ◌≤◌, ◌↔◌, ◌⊎◌, ◌∷◌, ◌++◌, List, [], Bool, true, false, Some, None, length, reverse, IsErr, IfOk, OnOk, OnErr, IfSome, IfNone, IsNone, MatchOption, Contains, All, if◌then◌else◌, nat_lt};
-ghost use Rattle.iq_outside.specs.Outside.{Rose, IsFresh, HandedBack, count_up};
+ghost use Rattle.std.specs.Prelude.{◌≡◌, ◌≤◌, ◌↔◌, ◌⊎◌, ◌∷◌, ◌++◌, [], true, false, Some, None, length, reverse, IsErr, IfOk, OnOk, OnErr, IfSome, IfNone, Contains, All, if◌then◌else◌, nat_lt};
+ghost use Rattle.iq_outside.specs.Outside.{Rose, HandedBack, count_up};
 ghost use Rattle.iq_outside.specs.MemoryForms.{IsUnused, kept_lines, line_record};
 
 use crate::addresses::Address;

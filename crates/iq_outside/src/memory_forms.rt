@@ -1,4 +1,4 @@
-ghost use Rattle.std.specs.Prelude.{◌≡◌, ℕ, ◌+◌, ◌-◌, ◌<◌, ◌≤◌, ◌↔◌, ◌⊎◌, ◌++◌, List, [], Some, length, take, drop, min, IsOk, IsErr, IfOk, OnOk, OnErr, Contains};
+ghost use Rattle.std.specs.Prelude.{◌≡◌, ◌+◌, ◌-◌, ◌<◌, ◌≤◌, ◌↔◌, ◌⊎◌, ◌++◌, [], Some, length, take, drop, min, IsErr, IfOk, OnOk, OnErr, Contains};
 ghost use Rattle.iq_outside.specs.Outside.{Rose, Takes, ZeroAtEnd, Gains, count_up};
 
 use crate::failures::Failed;

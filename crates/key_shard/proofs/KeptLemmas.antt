@@ -16,8 +16,6 @@ use Rattle.std.proofs.lemmas.List.Elements.{All-nil, All-weaker}
 use Rattle.entry_table.proofs.EntriesLemmas.{lookup-nil, keys-nil}
 use Rattle.key_shard.specs.declared.bodies.Body.{Body}
 use Rattle.key_shard.specs.declared.outs.Out.{Out}
-use Rattle.rows_model.specs.declared.keys.QKey.{QKey}
-use Rattle.rows_model.specs.declared.keys.Sid.{Sid}
 use Rattle.key_shard.specs.declared.steps.Step.{Step}
 use Rattle.key_shard.specs.declared.steps.Step.TheVariants.{Granted}
 use Rattle.key_shard.specs.Histories.{gone_after}

@@ -12,7 +12,7 @@ use Rattle.rows_model.proofs.SameKey.{same_key-swap}
 use Rattle.lease_table.specs.declared.records.Mode.TheVariants.{Invalidate, Refresh}
 use Rattle.lease_table.specs.declared.records.Quar.{Quar}
 use Rattle.lease_table.specs.Leases as leases
-use Rattle.lease_table.specs.Leases.{Leaves, first, has_token, is_of, is_raisable, holding_of, own_in, others_in, raise_in, raised, renewed, way_of}
+use Rattle.lease_table.specs.Leases.{Leaves, first, has_token, is_of, is_raisable, own_in, others_in, raise_in, raised, renewed, way_of}
 use Rattle.lease_table.specs.declared.records.Lease.{Lease}
 use Rattle.case_tables.specs.Compatibility.{Way, invalidate, refresh, delta, is_invalidate, is_raised, raise_verdict}
 use Rattle.case_tables.specs.declared.grids.Verdict.{Verdict}

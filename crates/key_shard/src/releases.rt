@@ -1,12 +1,9 @@
-ghost use Rattle.std.specs.Prelude.{◌≡◌, ◌≤◌, [], filter, find, map, not, IsTrue, OnOk, OnErr, IfOk, IfErr, Some, Ok, decimal, vec_capacity};
+ghost use Rattle.std.specs.Prelude.{◌≡◌, ◌≤◌, [], IsTrue, OnOk, OnErr, IfOk, IfErr, Some, Ok, decimal, vec_capacity};
 ghost use Rattle.std.specs.Bool.{IsFalse};
-ghost use Rattle.std.specs.List.{list_any};
 ghost use Rattle.entry_table.specs.Entries.{IsSound};
-ghost use Rattle.lease_table.specs.Leases.{has_token};
 ghost use Rattle.key_shard.specs.Answers.{Answers, FitsMode, ended_as, release_step, replace_step};
-ghost use Rattle.key_shard.specs.Kept.{Ends, HasRoom, IsKept, permit_of, shown, steps_of, terms_of};
+ghost use Rattle.key_shard.specs.Kept.{Ends, HasRoom, IsKept, shown, steps_of, terms_of};
 ghost use Rattle.key_shard.specs.Past.{evicts, quar_of};
-ghost use Rattle.key_shard.specs.Permit.{same_permit};
 ghost use Rattle.key_shard.specs.Replies.{ShowsRelease};
 ghost use Rattle.key_shard.specs.Shards.{is_out, returned};
 

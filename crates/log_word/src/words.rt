@@ -2,7 +2,7 @@
 ghost use Rattle.std.specs.Prelude.{◌≡◌, []};
 ghost use Rattle.log_word.specs.declared.seen.Part.TheVariants.{Store};
 ghost use Rattle.log_word.specs.Events.{MayFollow};
-ghost use Rattle.log_word.specs.Steps.{IsBorneOut, IsGranted, IsBeginning};
+ghost use Rattle.log_word.specs.Steps.{IsBorneOut, IsGranted};
 ghost use Rattle.log_word.specs.Rule.{IsShard};
 ghost use Rattle.log_word.specs.Views.{view_with_event, view_with_failure, view_with_stop, view_with_step, noted, with_shard, shard_view, view_joined, settled};
 ghost use Rattle.log_word.specs.Rule.{HasBegun};

@@ -4,7 +4,7 @@ ghost use Rattle.std.specs.List.{list_all};
 ghost use Rattle.rows_model.specs.declared.keys.Kind.{Kind};
 ghost use Rattle.rows_model.specs.declared.keys.QKey.{QKey};
 ghost use Rattle.rows_model.specs.Key.{word_of};
-ghost use Rattle.mc_text.specs.Words.{is_key_byte, is_key, is_numeral, Names, IsMember, IsKey, IsNumber, IsFlags, IsSid, IsBy};
+ghost use Rattle.mc_text.specs.Words.{is_key_byte, is_key, Names, IsMember, IsKey, IsNumber, IsFlags, IsSid, IsBy};
 
 use rows_model::{Kind, QKey, Sid};
 

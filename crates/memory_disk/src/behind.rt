@@ -1,7 +1,6 @@
 // The file behind a copy in memory, where there is one.
 ghost use Rattle.std.specs.Prelude.{◌≡◌, ◌+◌, IsTrue, Some, is_ok, is_some, OnOk};
 ghost use Rattle.sqlite_disk.specs.Disk.{CountsFault};
-ghost use Rattle.sqlite_disk.specs.Refusal.{finds_no_room};
 ghost use Rattle.memory_disk.specs.Copies.{usable_in, faults_in, refused_in, mixing_in, Reaches, IsLong, IsDurable, IsSettled, CountsFull};
 
 use crate::stored::copy_of;

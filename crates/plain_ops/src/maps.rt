@@ -2,7 +2,7 @@ ghost use Rattle.std.specs.Prelude.{[], ◌≡◌, ◌≤◌, ◌<◌, ◌-◌, 
 ghost use Rattle.mc_text.specs.declared.plain_commands.PlainCommand.TheVariants.{Set, Add, Replace, Cas, Delete, Incr, Decr};
 ghost use Rattle.mc_text.specs.declared.plain_replies.PlainReply.TheVariants as PlainReply;
 ghost use Rattle.plain_ops.specs.Entries.{is_fit};
-ghost use Rattle.plain_ops.specs.Steps.{PlainStep, ComesOf, stores, effect_of, after, IsStored};
+ghost use Rattle.plain_ops.specs.Steps.{PlainStep, ComesOf, stores, after, IsStored};
 
 use crate::tables::Table;
 use itoa::Buffer;

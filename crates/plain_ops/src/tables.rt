@@ -1,5 +1,5 @@
 // The entries by a hash of their keys, with a running sum of their bytes.
-ghost use Rattle.std.specs.Prelude.{[], ◌++◌, ◌≡◌, ◌≤◌, ◌+◌, ◌-◌, ◌^◌, true, false, length, nat_le, nat_lt, ◌&&◌, OnOk, OnErr, IfOk, IfSome, IfNone, is_some};
+ghost use Rattle.std.specs.Prelude.{[], ◌++◌, ◌≡◌, ◌≤◌, ◌+◌, ◌-◌, ◌^◌, true, false, length, nat_le, nat_lt, ◌&&◌, OnOk, OnErr, IfOk};
 ghost use Rattle.std.specs.Option.{option_copied, option_map, option_to_list, MatchOption};
 ghost use Rattle.std.specs.List.Sorted.{IsPermutation};
 ghost use Rattle.plain_ops.specs.declared.items.Item.{Item};

@@ -1,6 +1,6 @@
 // The index of the links and the blocks: beside each member the links of which it is an end, and those
 // whom it has blocked.
-ghost use Rattle.std.specs.Prelude.{◌≡◌, ◌≤◌, ◌<◌, ◌+◌, ◌==◌, ◌≢◌, true, false, map, length, fold, count_by, All, AllPairs, IfOk, IfSome, IfNone, OnOk, vec_len, vec_capacity};
+ghost use Rattle.std.specs.Prelude.{◌≡◌, ◌≤◌, ◌<◌, ◌+◌, ◌==◌, ◌≢◌, true, false, map, length, fold, All, AllPairs, IfOk, IfSome, IfNone, OnOk, vec_len, vec_capacity};
 ghost use Rattle.std.specs.List.{list_any, insert, AllZip};
 ghost use Rattle.rows_model.specs.Changes.{is_before, with_link, without_link, renamed};
 ghost use Rattle.rows_model.specs.Near.{IsAt, NearAscend, puts, AreTwo, links_after, members_after};

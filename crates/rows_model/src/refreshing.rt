@@ -1,6 +1,5 @@
-ghost use Rattle.std.specs.Prelude.{◌≡◌, length, map, fold, filter, not, ◌==◌, count_by, nat_lt, option_map, IfOk, if◌then◌else◌, Some, None, decimal, ◌++◌, ◌∷◌, ◌≤◌};
-ghost use Rattle.std.specs.List.{slice_split};
-ghost use Rattle.rows_model.specs.Refresh.{small_number, ids_from, words_of, ids_in, is_name, person_of, person_in, step_in, counted, has_id, with_id, without_id, listed, count_after, named, person_text, is_dash, refreshed_profile, refreshed_ids, refreshed_count, refreshed};
+ghost use Rattle.std.specs.Prelude.{◌≡◌, length, map, fold, filter, ◌==◌, count_by, nat_lt, option_map, IfOk, if◌then◌else◌, Some, None, ◌++◌, ◌∷◌, ◌≤◌};
+ghost use Rattle.rows_model.specs.Refresh.{small_number, ids_from, words_of, ids_in, person_of, person_in, step_in, counted, has_id, without_id, listed, count_after, named, is_dash, refreshed_profile, refreshed_ids, refreshed_count, refreshed};
 ghost use Rattle.rows_model.specs.RefreshIsAnswer.{RefreshIsAnswer};
 
 use crate::changes::{Change, Txn};

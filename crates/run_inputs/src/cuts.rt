@@ -1,5 +1,5 @@
 // Lines, words and numbers, cut off the front of a text.
-ghost use Rattle.std.specs.Prelude.{◌≡◌, ◌==◌, position, ℕ, ◌<◌, ◌≤◌, List, [], ◌∷◌, length, Option, IfSome, IfNone};
+ghost use Rattle.std.specs.Prelude.{◌≡◌, ◌==◌, position, ℕ, ◌<◌, ◌≤◌, [], ◌∷◌, length, Option, IfSome, IfNone};
 ghost use Rattle.std.specs.List.{list_all};
 ghost use Rattle.std.specs.Option.{option_copied};
 ghost use Rattle.rows_model.specs.Shift.{is_digit, is_number};

@@ -1,5 +1,5 @@
 // The draws from which the plan of a session comes.
-ghost use Rattle.std.specs.Prelude.{◌≡◌, ◌≤◌, ◌∷◌, decimal};
+ghost use Rattle.std.specs.Prelude.{◌≡◌, ◌≤◌, ◌∷◌};
 ghost use Rattle.run_inputs.specs.Loads.{after_draws, draws_after, kind_drawn, mode_drawn, member_drawn, other_drawn};
 
 use lease_table::Mode;

@@ -1,8 +1,8 @@
 // What the words behind a session's number say.
-ghost use Rattle.std.specs.Prelude.{◌≡◌, ℕ, List, [], ◌∷◌, Option, Some, IfSome, IfNone};
+ghost use Rattle.std.specs.Prelude.{◌≡◌, ℕ, [], ◌∷◌, Option, Some, IfSome, IfNone};
 ghost use Rattle.std.specs.Option.{option_copied};
 ghost use Rattle.lease_table.specs.declared.records.Mode.{Mode};
-ghost use Rattle.run_inputs.specs.Lines.{AreFloor, AreJobWords, mode_word};
+ghost use Rattle.run_inputs.specs.Lines.{AreFloor, mode_word};
 ghost use Rattle.run_inputs.specs.Parsing.{words_behind, IsJobOf, IsNoJob};
 ghost use Rattle.run_inputs.specs.declared.lines.Task.TheVariants as task;
 

@@ -1,4 +1,4 @@
-ghost use Rattle.std.specs.Prelude.{◌≡◌, ◌≢◌, ◌+◌, ◌≤◌, ◌<◌, ◌^◌, true, false, [], ◌++◌, Err, OnOk, OnErr, IfOk, IfErr, option_to_list};
+ghost use Rattle.std.specs.Prelude.{◌≡◌, ◌≢◌, ◌+◌, ◌≤◌, ◌<◌, ◌^◌, true, [], ◌++◌, Err, OnOk, OnErr, IfOk, IfErr, option_to_list};
 ghost use Rattle.run_inputs.specs.Script.{plan_of, acts_in, has_key, has_own_key, IsLong, IsSound, IsScript, ComesFrom};
 ghost use Rattle.run_inputs.specs.Parsing.{IsActFault, IsLineFault, IsPlanFault};
 ghost use Rattle.run_inputs.specs.declared.faults.ScriptKind.TheVariants.{LongText};

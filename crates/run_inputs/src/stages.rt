@@ -2,8 +2,7 @@
 ghost use Rattle.std.specs.Prelude.{◌≡◌, ◌+◌, ◌≤◌, ◌<◌, ◌^◌, nat_lt, IfOk, IfErr, IfSome, IfNone, IsTrue, ◌↔◌};
 ghost use Rattle.run_inputs.specs.declared.stages.Stage.TheVariants as stage;
 ghost use Rattle.run_inputs.specs.declared.lines.Line.{Line};
-ghost use Rattle.run_inputs.specs.Texts.{words_in};
-ghost use Rattle.run_inputs.specs.Lines.{most, verb_of, AreWords};
+ghost use Rattle.run_inputs.specs.Lines.{most, verb_of};
 ghost use Rattle.run_inputs.specs.Script.{is_in_place, sessions_in, turns_in, shape_with, shape_after, stage_after, after, start, is_numbered, Says, IsPlaced, IsFaulty};
 ghost use Rattle.run_inputs.specs.Parsing.{IsWithin};
 

@@ -1,5 +1,5 @@
 -- The words of a command are read as they stand.
-use Rattle.std.proofs.Common.{inl, inr, ℕ, zero, suc, ◌≡◌, ◌<◌, ◌≤◌, ◌^◌, ◌∙◌, List, [], ◌∷◌, ◌++◌, length, get_or, Result, Ok, Err, refl, sym, ap, subst, arith, ne_eqb}
+use Rattle.std.proofs.Common.{inl, inr, ℕ, zero, suc, ◌≡◌, ◌<◌, ◌≤◌, ◌^◌, ◌∙◌, List, [], ◌∷◌, ◌++◌, length, get_or, map, Result, Ok, Err, refl, sym, ap, subst, arith, ne_eqb}
 use Rattle.std.specs.Prelude.{All, IfOk, MatchResult, Some, ◌≢◌, codes, decimal, slice_get}
 use Rattle.std.specs.Str.{IsUtf8, is_utf8}
 use Rattle.std.proofs.lemmas.Fmt.{IsAscii-decimal, decimal_digit, decimal_nonempty, first_decimal}
@@ -8,18 +8,21 @@ use Rattle.std.proofs.lemmas.Str.{IsUtf8-from_ascii, IsUtf8-from_is_utf8}
 use Rattle.clap.specs.Words.{IsAmong, Text, fault_of}
 use Rattle.clap.proofs.OnLiterals.{clap_on_literals}
 use Rattle.clap.specs.declared.error.kind.ErrorKind.TheVariants.{DisplayHelp, DisplayVersion}
+use Rattle.run_inputs.specs.declared.loads.WorkSpec.{WorkSpec}
+use Rattle.run_inputs.specs.Loads.{IsWork}
+use Rattle.run_inputs.specs.Words.{numbers_of}
 use Rattle.sql_keeper.specs.declared.keepers.Place.{Place}
 use Rattle.sql_keeper.specs.declared.keepers.Place.TheVariants.{Fresh, File}
 use Rattle.run_words.specs.declared.words.Conns.{Conns}
 use Rattle.run_words.specs.declared.words.Conns.TheVariants.{Number, Forever}
 use Rattle.run_words.specs.declared.words.Words.{Words}
-use Rattle.run_words.specs.declared.words.Words.TheVariants.{Replay, Work, Serve, Page}
+use Rattle.run_words.specs.declared.words.Words.TheVariants.{Replay, Work, Warm, Serve, Page}
 use Rattle.run_words.specs.declared.words.WordsFault.{WordsFault}
 use Rattle.run_words.specs.declared.words.WordsFault.TheVariants.{Usage, Memory}
 use Rattle.run_words.specs.Program.{program}
 use Rattle.run_words.specs.Words.{AreCommand, AreWords, CanBeNamed, IsConns, conns_word, place_words, with_place}
 use Rattle.run_words.specs.Reading.{AreSaid, AskForText, IsRead, IsSaid}
-use Rattle.run_words.proofs.TakenLemmas.{ArePlain, AreTakenAs, HasPlainPath, IsPlainWord, replay_taken, work_taken, serve_taken}
+use Rattle.run_words.proofs.TakenLemmas.{ArePlain, AreTakenAs, HasPlainPath, IsPlainWord, replay_taken, work_taken, serve_taken, warm_taken}
 
 -- ---- words are UTF-8, and begin with no hyphen
 
@@ -34,6 +37,10 @@ work_utf8 = IsUtf8-from_is_utf8 (codes "work") refl
 serve_utf8 : IsUtf8 (codes "serve")
 unfolding clap_on_literals is_utf8
 serve_utf8 = IsUtf8-from_is_utf8 (codes "serve") refl
+
+warm_utf8 : IsUtf8 (codes "warm")
+unfolding clap_on_literals is_utf8
+warm_utf8 = IsUtf8-from_is_utf8 (codes "warm") refl
 
 forever_utf8 : IsUtf8 (codes "forever")
 unfolding clap_on_literals is_utf8
@@ -111,13 +118,10 @@ stands words others place first values written is named p q t =
     (subst (λ (os : List Text). Stand (first ∷ (place_words place ++ values)) os place) (sym is)
     (record { utf8 = all_placed place first values named p q; taken = t }))
 
-stand : (words : List Text) (command : Words) → (h : AreWords words command) → Stand words h.others h.place
-stand words (Replay at) h =
-    stands words h.others h.place (codes "replay") [] h.written h.are_command.1 h.named replay_utf8 (All-nil IsUtf8)
-    (replay_taken h.place (plain_path h.place h.named))
-stand words (Work at spec) h =
-    let are = h.are_command.1 in
-    let fits = are.fits in
+-- the numbers of a load are such words
+load_words : (spec : WorkSpec) → IsWork spec → spec.seed < 2 ^ 64
+    → All IsUtf8 (map decimal (numbers_of spec)) × ArePlain (map decimal (numbers_of spec))
+load_words spec fits seed =
     let few_members : spec.members ≤ 100000 = fits.few_members in
     let few_sessions : spec.sessions ≤ 500000 = fits.few_sessions in
     let few_workers : spec.workers ≤ 1024 = fits.few_workers in
@@ -126,16 +130,30 @@ stand words (Work at spec) h =
     let members = small spec.members (omega arith) in
     let sessions = small spec.sessions (omega arith) in
     let workers = small spec.workers (omega arith) in
-    let shards = small spec.shards (omega arith) in
-    let seed = are.seed_below in
-    let plain =
-    plain_five _ _ _ _ _ (plain_decimal spec.members members) (plain_decimal spec.sessions sessions) (plain_decimal spec.workers workers)
-    (plain_decimal spec.shards shards) (plain_decimal spec.seed seed) in
-    let utf8 =
-    all_five _ _ _ _ _ (decimal_utf8 spec.members members) (decimal_utf8 spec.sessions sessions) (decimal_utf8 spec.workers workers)
-    (decimal_utf8 spec.shards shards) (decimal_utf8 spec.seed seed) in
-    stands words h.others h.place (codes "work") _ h.written are.written h.named work_utf8 utf8
-    (work_taken h.place (plain_path h.place h.named) _ _ _ _ _ plain)
+    let shards = small spec.shards (omega arith) in (
+      all_five _ _ _ _ _ (decimal_utf8 spec.members members) (decimal_utf8 spec.sessions sessions) (decimal_utf8 spec.workers workers)
+          (decimal_utf8 spec.shards shards) (decimal_utf8 spec.seed seed),
+      plain_five _ _ _ _ _ (plain_decimal spec.members members) (plain_decimal spec.sessions sessions) (plain_decimal spec.workers workers)
+          (plain_decimal spec.shards shards) (plain_decimal spec.seed seed),
+    )
+
+stand : (words : List Text) (command : Words) → (h : AreWords words command) → Stand words h.others h.place
+stand words (Replay at) h =
+    stands words h.others h.place (codes "replay") [] h.written h.are_command.1 h.named replay_utf8 (All-nil IsUtf8)
+    (replay_taken h.place (plain_path h.place h.named))
+stand words (Work at spec) h =
+    let are = h.are_command.1 in
+    let each = load_words spec are.fits are.seed_below in
+    stands words h.others h.place (codes "work") _ h.written are.written h.named work_utf8 each.0
+    (work_taken h.place (plain_path h.place h.named) _ _ _ _ _ each.1)
+stand words (Warm at spec) h =
+    let are = h.are_command.1 in
+    let load = are.are_load in
+    let each = load_words spec load.fits load.seed_below in
+    let behind = load.written in
+    let numbers : are.numbers ≡ map decimal (numbers_of spec) = cc in
+    stands words h.others h.place (codes "warm") _ h.written (are.written ∙ ap (λ (ws : List Text). codes "warm" ∷ ws) numbers) h.named warm_utf8 each.0
+    (warm_taken h.place (plain_path h.place h.named) _ _ _ _ _ each.1)
 stand words (Serve at spec) h =
     let are = h.are_command.1 in
     let fits = are.fits in
@@ -197,6 +215,7 @@ pub accepted : (words : List Text) (r : Result Words WordsFault) → IfOk r (IsS
     → MatchResult r (AreWords words) (λ (fault : WordsFault). fault ≡ Memory)
 accepted words (Ok (Replay at)) said usage command h = own_words words command h (Replay at) said
 accepted words (Ok (Work at spec)) said usage command h = own_words words command h (Work at spec) said
+accepted words (Ok (Warm at spec)) said usage command h = own_words words command h (Warm at spec) said
 accepted words (Ok (Serve at spec)) said usage command h = own_words words command h (Serve at spec) said
 accepted words (Ok (Page text)) said usage command h = absurd (no_text words (stand words command h).taken.taken said)
 accepted words (Err Memory) said usage command h = refl

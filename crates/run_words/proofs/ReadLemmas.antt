@@ -12,7 +12,7 @@ use Rattle.clap.specs.Words.{first_value}
 use Rattle.clap.proofs.WalkLemmas.{first_value-rows, raw_values-rows}
 use Rattle.sql_keeper.specs.declared.keepers.Place.{Place}
 use Rattle.run_words.specs.declared.words.Words.{Words}
-use Rattle.run_words.specs.declared.words.Words.TheVariants.{Replay, Work, Serve, Page}
+use Rattle.run_words.specs.declared.words.Words.TheVariants.{Replay, Work, Warm, Serve, Page}
 use Rattle.run_words.specs.declared.words.WordsFault.{WordsFault}
 use Rattle.run_words.specs.declared.words.WordsFault.TheVariants as fault
 use Rattle.run_words.specs.Program.{program}
@@ -114,6 +114,7 @@ said_given words m t command h = record {
 pub said : (words : List Text) (m : ArgMatches) → AreTakenBy words m → (command : Words) → AreGiven (subcommand_rows_of m) command → IsSaid words command
 said words m t (Replay at) h = said_given words m t (Replay at) h
 said words m t (Work at spec) h = said_given words m t (Work at spec) h
+said words m t (Warm at spec) h = said_given words m t (Warm at spec) h
 said words m t (Serve at spec) h = said_given words m t (Serve at spec) h
 said words m t (Page text) h = absurd h.are_command
 
@@ -142,6 +143,7 @@ pub text_said : (words : List Text) (kind : ErrorKind) (r : Result Words WordsFa
 text_said words kind (Ok (Page text)) f h = asks words kind f h
 text_said words kind (Ok (Replay at)) f h = absurd h
 text_said words kind (Ok (Work at spec)) f h = absurd h
+text_said words kind (Ok (Warm at spec)) f h = absurd h
 text_said words kind (Ok (Serve at spec)) f h = absurd h
 text_said words kind (Err e) f h = tt
 

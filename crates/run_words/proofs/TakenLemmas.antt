@@ -297,6 +297,19 @@ serve_taken (File path) at a b c d e p = record {
   place_is = leaf_place (codes "serve") (File path) at a b c d e p;
 }
 
+pub warm_taken : (place : Place) → HasPlainPath place → (a b c d e : Text) → ArePlain (a ∷ b ∷ c ∷ d ∷ e ∷ []) → TakesFive (codes "warm") place a b c d e
+unfolding clap_on_literals
+warm_taken Fresh at a b c d e p = record {
+  taken = ap (above (codes "warm" ∷ a ∷ b ∷ c ∷ d ∷ e ∷ [])) (leaf_faultless (codes "warm") Fresh at a b c d e p);
+  line_is = leaf_line (codes "warm") Fresh at a b c d e p;
+  place_is = leaf_place (codes "warm") Fresh at a b c d e p;
+}
+warm_taken (File path) at a b c d e p = record {
+  taken = ap (above (codes "warm" ∷ codes "--db" ∷ path ∷ a ∷ b ∷ c ∷ d ∷ e ∷ [])) (leaf_faultless (codes "warm") (File path) at a b c d e p);
+  line_is = leaf_line (codes "warm") (File path) at a b c d e p;
+  place_is = leaf_place (codes "warm") (File path) at a b c d e p;
+}
+
 -- ---- no values
 
 -- what is read of the words of the place alone

@@ -1,6 +1,6 @@
 -- Words of commands, and lists of them.
 use Rattle.std.proofs.Common.{ℕ, ◌≡◌, ◌≤◌, ◌<◌, ◌+◌, ◌∙◌, List, [], ◌∷◌, ◌++◌, length, map, take, get_or, Option, Some, None, refl, sym, ap, ap₂, subst, arith, append_assoc}
-use Rattle.std.specs.Prelude.{◌^◌, true, codes, decimal, IfNone}
+use Rattle.std.specs.Prelude.{◌^◌, true, codes, decimal, Result, Ok, Err, IfOk, IfSome, IfNone}
 use Rattle.std.specs.List.{All}
 use Rattle.std.proofs.lemmas.List.{take_more, map-append, get_or-map, length-map}
 use Rattle.std.proofs.lemmas.List.Elements.{All-append, All-cons, All-nil}
@@ -9,10 +9,15 @@ use Rattle.std.proofs.lemmas.Fmt.{decimal_injective}
 use Rattle.rows_model.specs.Shift.{is_digit}
 use Rattle.rows_model.proofs.ShiftLemmas.{decimal_digits}
 use Rattle.clap.proofs.OnLiterals.{clap_on_literals}
+use Rattle.run_inputs.specs.declared.loads.WorkSpec.{WorkSpec}
+use Rattle.run_inputs.specs.Words.{AreWork}
 use Rattle.run_words.specs.declared.words.Conns.{Conns}
 use Rattle.run_words.specs.declared.words.Conns.TheVariants.{Number, Forever}
 use Rattle.run_words.specs.declared.words.ServeSpec.{ServeSpec}
-use Rattle.run_words.specs.Words.{AreServe, AreServeNumbers, IsConns, conns_word}
+use Rattle.run_words.specs.declared.words.Words.{Words}
+use Rattle.run_words.specs.declared.words.Words.TheVariants as words
+use Rattle.sql_keeper.specs.declared.keepers.Place.{Place}
+use Rattle.run_words.specs.Words.{AreCommand, AreServe, AreServeNumbers, AreWarm, IsConns, conns_word}
 
 -- ---- a list that grows by one text
 
@@ -37,6 +42,42 @@ pub one_fails : {Y : Type 0} (P : List ℕ → Type 0) (g : Y → List ℕ) (ys 
 one_fails P g ys i y below is bad all =
     let inside : i < length (map g ys) = subst (λ n. i < n) (sym (length-map ys g)) below in
     bad (subst P (get_or-map g ys i y (g y) below ∙ ap g (sym is)) (all i (g y) inside))
+
+-- ---- a load, and then the next one
+
+-- what is a load behind `work` is one behind `warm`
+pub warm_found : {E : Type 0} (values : List (List ℕ)) (o : Result (Option WorkSpec) E)
+    → IfOk o (λ found. IfSome found (AreWork (codes "work" ∷ values))) → IfOk o (λ found. IfSome found (AreWarm (codes "warm" ∷ values)))
+warm_found values (Ok (Some spec)) is = record { numbers = values; written = refl; are_load = is }
+warm_found values (Ok None) is = tt
+warm_found values (Err e) is = tt
+
+-- and what is none is none
+pub warm_none : {E : Type 0} (values : List (List ℕ)) (o : Result (Option WorkSpec) E)
+    → IfOk o (λ found. IfNone found ((spec : WorkSpec) → AreWork (codes "work" ∷ values) spec → ⊥))
+    → IfOk o (λ found. IfNone found ((spec : WorkSpec) → AreWarm (codes "warm" ∷ values) spec → ⊥))
+warm_none values (Ok (Some spec)) none = tt
+warm_none values (Ok None) none = λ spec h.
+    let written = h.written in
+    let same : h.numbers ≡ values = cc in
+    none spec (subst (λ (ws : List (List ℕ)). AreWork (codes "work" ∷ ws) spec) same h.are_load)
+warm_none values (Err e) none = tt
+
+-- where no load is behind `warm`, the words are no command
+pub no_warm : (name : List ℕ) (values : List (List ℕ)) (place : Place) → name ≡ codes "warm" → ((spec : WorkSpec) → AreWarm (codes "warm" ∷ values) spec → ⊥)
+    → (command : Words) → AreCommand (name ∷ values) place command → ⊥
+no_warm name values place is none (words.Replay at) are =
+    let second : 97 ≡ 101 = ap (λ (word : List ℕ). get_or word 1 0) (sym is ∙ ap (λ (all : List (List ℕ)). get_or all 0 []) are.1) in
+    absurd (omega (arith, second))
+no_warm name values place is none (words.Work at spec) are =
+    let second : 97 ≡ 111 = ap (λ (word : List ℕ). get_or word 1 0) (sym is ∙ ap (λ (all : List (List ℕ)). get_or all 0 []) are.1.written) in
+    absurd (omega (arith, second))
+no_warm name values place is none (words.Warm at spec) are =
+    none spec (subst (λ (first : List ℕ). AreWarm (first ∷ values) spec) is are.1)
+no_warm name values place is none (words.Serve at spec) are =
+    let second : 97 ≡ 101 = ap (λ (word : List ℕ). get_or word 1 0) (sym is ∙ ap (λ (all : List (List ℕ)). get_or all 0 []) are.1.written) in
+    absurd (omega (arith, second))
+no_warm name values place is none (words.Page text) are = are
 
 -- ---- what is served
 

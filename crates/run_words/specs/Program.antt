@@ -27,7 +27,9 @@ with_values name = (with_rule (with_db name) values_rule).top
 abbrev pub alone : App
 alone = on_top (λ s. record s { no_binary_name = true; has_version = true; subcommand_required = true }) (new_app (codes "iq"))
 
--- The program with its three commands.
+-- The program with its four commands.
 abbrev pub program : App
 program =
-    with_subcommand (with_subcommand (with_subcommand alone (with_db (codes "replay")).top) (with_values (codes "work"))) (with_values (codes "serve"))
+    with_subcommand
+    (with_subcommand (with_subcommand (with_subcommand alone (with_db (codes "replay")).top) (with_values (codes "work"))) (with_values (codes "serve")))
+    (with_values (codes "warm"))

@@ -2,6 +2,7 @@
 use Rattle.std.specs.Prelude.{ℕ, ◌≡◌, ◌≢◌, ◌≤◌, List, [], ◌∷◌, ◌++◌, length, map, Option, Some, None, slice_get, codes, decimal}
 use Rattle.std.specs.Str.{IsUtf8}
 use Rattle.run_inputs.specs.Parsing.{IsNumberWithin}
+use Rattle.run_inputs.specs.declared.loads.WorkSpec.{WorkSpec}
 use Rattle.run_inputs.specs.Words.{AreWork}
 use Rattle.sql_keeper.specs.declared.keepers.Place.{Place}
 use Rattle.sql_keeper.specs.declared.keepers.Place.TheVariants.{Fresh, File}
@@ -9,7 +10,7 @@ use Rattle.run_words.specs.declared.words.Conns.{Conns}
 use Rattle.run_words.specs.declared.words.Conns.TheVariants.{Number, Forever}
 use Rattle.run_words.specs.declared.words.ServeSpec.{ServeSpec}
 use Rattle.run_words.specs.declared.words.Words.{Words}
-use Rattle.run_words.specs.declared.words.Words.TheVariants.{Replay, Work, Serve, Page}
+use Rattle.run_words.specs.declared.words.Words.TheVariants.{Replay, Work, Warm, Serve, Page}
 
 -- An address or a path may be written so: UTF-8 text that isn't empty and doesn't begin with a hyphen.
 pub record IsPlainText (text : List ℕ) : Type 0 where
@@ -65,6 +66,12 @@ pub record AreServeNumbers (conns workers shards members : List ℕ) (spec : Ser
   pub shards_are : IsNumberWithin shards 1 64 spec.shards
   pub members_are : IsNumberWithin members 1 100000 spec.members
 
+-- The words are `warm`, and behind it what stands behind `work` in the words of this load.
+pub record AreWarm (words : List (List ℕ)) (spec : WorkSpec) : Type 0 where
+  pub numbers : List (List ℕ)
+  pub written : words ≡ codes "warm" ∷ numbers
+  pub are_load : AreWork (codes "work" ∷ numbers) spec
+
 -- The words that name a place: none for a fresh one, and for a file `--db` and its path.
 abbrev pub place_words : Place → List (List ℕ)
 place_words Fresh = []
@@ -84,6 +91,7 @@ with_place place (first ∷ others) = first ∷ (place_words place ++ others)
 abbrev pub AreCommand : List (List ℕ) → Place → Words → Type 0
 AreCommand words place (Replay at) = (at ≡ place) × (words ≡ codes "replay" ∷ [])
 AreCommand words place (Work at spec) = (at ≡ place) × AreWork words spec
+AreCommand words place (Warm at spec) = (at ≡ place) × AreWarm words spec
 AreCommand words place (Serve at spec) = (at ≡ place) × AreServe words spec
 AreCommand words place (Page text) = ⊥
 

@@ -6,12 +6,12 @@ ghost use Rattle.run_words.specs.Program.{program, db_rule, values_rule};
 use clap::{Arg, Command};
 use std::alloc::{AllocError, Global};
 
-// What the five values of `work` are called, and those of `serve`.
+// What the five values of `work` and of `warm` are called, and those of `serve`.
 static WORK_VALUES: [&str; 5] = ["members", "sessions", "workers", "shards", "seed"];
 
 static SERVE_VALUES: [&str; 5] = ["addr", "conns", "workers", "shards", "members"];
 
-/// The program, with its three commands.
+/// The program, with its four commands.
 pub(crate) fn program<'a>(alloc: Global) -> Result<Command<'a>, AllocError>
     ensures { IfOk result (λ command. app_of command ≡ program) }
 {
@@ -28,6 +28,12 @@ pub(crate) fn program<'a>(alloc: Global) -> Result<Command<'a>, AllocError>
         )
         .arg(db_path(alloc))?
         .arg(five_values(alloc, &SERVE_VALUES))?;
+    let warm = Command::new(alloc, "warm")
+        .about(
+            "Runs a load, and then the next one over a cache that takes over what is still right",
+        )
+        .arg(db_path(alloc))?
+        .arg(five_values(alloc, &WORK_VALUES))?;
     Command::new(alloc, "iq")
         .about("A cache that never shows an answer older than a session may see")
         .version("0.1.0")
@@ -35,7 +41,8 @@ pub(crate) fn program<'a>(alloc: Global) -> Result<Command<'a>, AllocError>
         .subcommand_required(true)
         .subcommand(replay)?
         .subcommand(work)?
-        .subcommand(serve)
+        .subcommand(serve)?
+        .subcommand(warm)
 }
 
 // The path of the file in which the rows lie.

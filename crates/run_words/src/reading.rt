@@ -8,7 +8,7 @@ ghost use Rattle.run_inputs.specs.Words.{AreWork};
 ghost use Rattle.run_words.specs.declared.words.Conns.{Conns};
 ghost use Rattle.run_words.specs.declared.words.ServeSpec.{ServeSpec};
 ghost use Rattle.run_words.specs.declared.words.Words.{Words};
-ghost use Rattle.run_words.specs.Words.{AreCommand, AreConns, AreServe, AreServeNumbers, AreWords, CanBeNamed};
+ghost use Rattle.run_words.specs.Words.{AreCommand, AreConns, AreServe, AreServeNumbers, AreWarm, AreWords, CanBeNamed};
 ghost use Rattle.run_words.specs.Reading.{place_in, AreGiven, AreReadAs, AreSaid, IsRead, IsRefused, IsSaid};
 
 use crate::program::program;
@@ -166,6 +166,10 @@ fn command_named(
             Some(spec) => Ok(Some(Words::Serve { place, spec })),
             None => Ok(None),
         },
+        "warm" => match warm_of(alloc, values)? {
+            Some(spec) => Ok(Some(Words::Warm { place, spec })),
+            None => Ok(None),
+        },
         _ => Ok(None),
     }
 }
@@ -183,6 +187,16 @@ fn work_of(alloc: Global, values: &[&str]) -> Result<Option<WorkSpec>, AllocErro
         words.push(Vec::from_slice(alloc, value.as_bytes())?)?;
     }
     Ok(work_words(words.as_slice()))
+}
+
+// The load of `warm` of which these are the numbers.
+fn warm_of(alloc: Global, values: &[&str]) -> Result<Option<WorkSpec>, AllocError>
+    ensures found { IfOk result (λ found. IfSome found
+        (AreWarm (codes "warm" ∷ map (λ value. value.now) values.now))) }
+    ensures none { IfOk result (λ found. IfNone found ((spec : WorkSpec) →
+        AreWarm (codes "warm" ∷ map (λ value. value.now) values.now) spec → ⊥)) }
+{
+    work_of(alloc, values)
 }
 
 // What is served, where these are the address and the numbers.

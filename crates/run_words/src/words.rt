@@ -49,6 +49,8 @@ pub enum Words {
     Replay { place: Place },
     /// To draw a load and run it.
     Work { place: Place, spec: WorkSpec },
+    /// To run such a load, and then the next one over a cache that takes over what is still right.
+    Warm { place: Place, spec: WorkSpec },
     /// To serve connections.
     Serve { place: Place, spec: ServeSpec },
     /// To show this text, the help or the version.

@@ -1,5 +1,4 @@
-ghost use Rattle.std.specs.Prelude.{◌≡◌, ◌<◌, ◌≤◌, ◌↔◌, List, ◌∷◌, Bool, Some, slice_get, length, count_by, IsTrue};
-ghost use Rattle.rows_model.specs.declared.changes.Change.{Change};
+ghost use Rattle.std.specs.Prelude.{◌≡◌, ◌<◌, ◌≤◌, ◌↔◌, List, ◌∷◌, Bool, Some, length, count_by, IsTrue};
 ghost use Rattle.session_client.specs.Belongs.{Belongs, IsQuarantineOf};
 ghost use Rattle.session_client.specs.Desks.{IsProper};
 ghost use Rattle.session_client.specs.Follows.{IsOpen, PartsFollow, QuarantineAwaits, WriteIsReady};

@@ -1,4 +1,4 @@
-ghost use Rattle.std.specs.Prelude.{◌≡◌, ◌↔◌, ◌<◌, ◌≤◌, List, [], ◌∷◌, Bool, true, false, IsTrue, Option, Some, IfSome, ℕ, length, slice_get, OnErr, MatchResult};
+ghost use Rattle.std.specs.Prelude.{◌≡◌, ◌↔◌, ◌<◌, ◌≤◌, List, [], ◌∷◌, Bool, true, false, IsTrue, Option, Some, IfSome, length, slice_get, OnErr, MatchResult};
 ghost use Rattle.rows_model.specs.declared.changes.Change.{Change};
 ghost use Rattle.rows_model.specs.declared.keys.QKey.{QKey};
 ghost use Rattle.rows_model.specs.declared.keys.Sid.{Sid};
@@ -8,7 +8,7 @@ ghost use Rattle.session_client.specs.Desks.{IsProper};
 ghost use Rattle.session_client.specs.Grants.{GrantsView};
 ghost use Rattle.session_client.specs.Follows.{CommitAwaits, IsEnding, IsRefreshing, PartsFollow, ReleaseAwaits, StageAwaits, WriteIsReady};
 ghost use Rattle.session_client.specs.Wants.{Given, Writing, given, granted, released, release_of, finish, write_wants};
-ghost use Rattle.session_client.specs.Writers.{HandView, HasRoom, IsNewBeside, IsPaired, release_as};
+ghost use Rattle.session_client.specs.Writers.{HasRoom, IsNewBeside, IsPaired, release_as};
 ghost use Rattle.session_client.specs.declared.replies.Reply.{Reply};
 ghost use Rattle.session_client.specs.declared.stages.Next.{Next};
 ghost use Rattle.session_client.specs.declared.stages.Release.TheVariants as Release;

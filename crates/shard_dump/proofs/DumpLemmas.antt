@@ -1,7 +1,7 @@
 -- The rows of the entries that are dumped.
-use Rattle.std.proofs.Common.{ℕ, ◌≡◌, ◌≢◌, ◌<◌, ◌≤◌, ◌+◌, ◌^◌, ◌&&◌, Bool, true, false, cond, not, nat_le, List, [], ◌∷◌, ◌++◌, length, reverse, map, Option, Some, None, option_and_then}
+use Rattle.std.proofs.Common.{ℕ, ◌≡◌, ◌≢◌, ◌<◌, ◌≤◌, ◌+◌, ◌^◌, ◌&&◌, Bool, true, false, cond, not, nat_le, List, [], ◌∷◌, ◌++◌, length, reverse, Option, Some, None, option_and_then}
 use Rattle.std.proofs.Common.{arith, refl, sym, ap, subst, ◌∙◌, append-nil}
-use Rattle.std.specs.Prelude.{All, AllPairs, IfOk, Result, Ok, Err}
+use Rattle.std.specs.Prelude.{if◌then◌else◌, All, AllPairs, IfOk, Result, Ok, Err}
 use Rattle.std.specs.Global.{Vec}
 use Rattle.rows_model.specs.declared.refusals.Memory.{Memory}
 use Rattle.std.specs.List.{filter_map, AllByRecursion, cons_option}
@@ -185,6 +185,39 @@ is_dump log shard rows text one_of few roomy legal e ids written =
       };
       written = written ∙ ap (λ (rs : List DumpRow). head_text (record { shard = shard.terms.no; count = shard.terms.count; rows = length rs }) ++ rows_text rs ++ end_text) e;
     }
+
+-- there is room for the rows where there was for the entries
+pub rows_in_room : (log : List Commit) (shard : ShardView) → Legal shard.terms shard.history → 1 ≤ shard.terms.room
+    → length (rows_of log (past_of shard)) ≤ shard.terms.room
+rows_in_room log shard legal some =
+    let few = order_few shard.terms (past_of shard) shard.terms.room (omega arith) some legal in
+    let count = row_count (row_on log (past_of shard)) (reverse (order (past_of shard))) in
+    let same = length-reverse (order (past_of shard)) in
+    omega (arith, few, count, same)
+
+and_not : (a b : Bool) → (a && not b) ≡ true → b ≡ false
+and_not a false is = refl
+and_not true true is = absurd cc
+and_not false true is = absurd cc
+
+-- what holds of each entry that no later commit touches holds of all rows
+pub rows_by_entries : (log : List Commit) (past : List Step) (P : DumpRow → Type 0)
+    → ((key : QKey) (value : List ℕ) (stamp : ℕ) → entry key past ≡ Some (value, stamp) → is_touched log key stamp ≡ false → P (record { key = key; value = value }))
+    → (ks : List QKey) → All P (filter_map (row_on log past) ks)
+rows_by_entries log past P each [] = All-nil P
+rows_by_entries log past P each (k ∷ ks) = by (entry k past) refl (rows_by_entries log past P each ks)
+  where
+    taken : (found : List ℕ × ℕ) → entry k past ≡ Some found → (b : Bool) → is_dumped log k found ≡ b → All P (filter_map (row_on log past) ks)
+        → All P (cons_option (if b then Some (record { key = k; value = found.0 }) else None) (filter_map (row_on log past) ks))
+    taken found e true is rest =
+        All-cons P (record { key = k; value = found.0 }) (filter_map (row_on log past) ks)
+        (each k found.0 found.1 e (and_not (nat_le 1 k.id && nat_le (length found.0) 1048576) (is_touched log k found.1) is)) rest
+    taken found e false is rest = rest
+
+    by : (o : Option (List ℕ × ℕ)) → entry k past ≡ o → All P (filter_map (row_on log past) ks)
+        → All P (cons_option (option_and_then (row_of log k) o) (filter_map (row_on log past) ks))
+    by None e rest = rest
+    by (Some found) e rest = taken found e (is_dumped log k found) refl rest
 
 -- so the text that is written of the rows is that of the dump
 pub text_is_dump : (log : List Commit) (shard : ShardView) (rows given : List DumpRow) (number count len : ℕ) (result : Result (Vec ℕ) Memory)

@@ -1,7 +1,7 @@
 -- A text says one dump at most, or is wrong first at one place.
 use Rattle.std.proofs.Common.{ℕ, ◌≡◌, ◌≢◌, ◌<◌, ◌≤◌, ◌+◌, ◌⊎◌, inl, inr, List, [], ◌∷◌, ◌++◌, length, get_or, Result, Ok, Err, IfOk, IfErr}
 use Rattle.std.proofs.Common.{arith, refl, sym, ap, subst, ◌∙◌, append_assoc, append-nil, length-append}
-use Rattle.std.specs.Prelude.{All, AllPairs}
+use Rattle.std.specs.Prelude.{All}
 use Rattle.std.proofs.Math.ListN.{get_or-append}
 use Rattle.std.proofs.Math.Seq.{get_or-append_seam}
 use Rattle.std.proofs.lemmas.List.{append_cancel_left}
@@ -12,7 +12,7 @@ use Rattle.shard_dump.specs.declared.rows.DumpRow.{DumpRow}
 use Rattle.shard_dump.specs.declared.rows.Dump.{Dump}
 use Rattle.shard_dump.specs.declared.faults.DumpFault.{DumpFault}
 use Rattle.shard_dump.specs.declared.faults.DumpFault.TheVariants.{Bad, Memory}
-use Rattle.shard_dump.specs.Texts.{head_text, row_text, rows_text, end_text, head_of, IsHead, IsRow, AreRows, IsDumpText, HasNoHead}
+use Rattle.shard_dump.specs.Texts.{head_text, row_text, rows_text, end_text, head_of, IsRow, AreRows, IsDumpText, HasNoHead}
 use Rattle.shard_dump.specs.Faults.{IsNext, BeginsWith, HasNoNext, IsBadRow, IsBadEnd, HasMore, IsBadAt, IsDumpFault, Gives, TextsTellDumps}
 use Rattle.shard_dump.proofs.TextLemmas.{head_once, row_once}
 

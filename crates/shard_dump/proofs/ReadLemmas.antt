@@ -1,17 +1,16 @@
 -- What the parts of the reader find.
-use Rattle.std.proofs.Common.{ℕ, ◌≡◌, ◌≢◌, ◌<◌, ◌≤◌, ◌+◌, ◌^◌, ◌||◌, cond, Bool, true, false, List, [], ◌∷◌, ◌++◌, length, get_or, decimal, Option, Some, None}
-use Rattle.std.proofs.Common.{arith, refl, sym, ap, ◌∙◌, append_assoc, append-nil, IfSome, IfNone, length-append, subst, inl, inr}
-use Rattle.std.specs.Prelude.{codes, All, AllPairs}
-use Rattle.std.specs.List.{flat_map}
+use Rattle.std.proofs.Common.{ℕ, ◌≡◌, ◌≢◌, ◌<◌, ◌≤◌, ◌+◌, ◌^◌, ◌||◌, cond, Bool, true, false, List, [], ◌∷◌, ◌++◌, length, decimal, Some, None}
+use Rattle.std.proofs.Common.{arith, refl, sym, ap, ◌∙◌, append_assoc, append-nil, length-append, subst, inl, inr}
+use Rattle.std.specs.Prelude.{codes, All}
 use Rattle.std.proofs.lemmas.Bool.{or_parts, or_cases}
 use Rattle.std.proofs.lemmas.List.{flat_map_more, append_cancel_left}
 use Rattle.std.proofs.lemmas.List.Elements.{All-nil, All-push, All-head, All-tail, All-cons}
 use Rattle.std.proofs.lemmas.List.Quantifiers.{all_pairs_push}
 use Rattle.rows_model.specs.Shift.{number_in}
-use Rattle.rows_model.proofs.ShiftLemmas.{number_in-decimal, number_in-written}
+use Rattle.rows_model.proofs.ShiftLemmas.{number_in-decimal}
 use Rattle.shard_dump.specs.declared.heads.Head.{Head}
 use Rattle.shard_dump.specs.declared.rows.DumpRow.{DumpRow}
-use Rattle.shard_dump.specs.Texts.{head_text, row_text, rows_text, end_text, IsHead, IsRow, AreRows}
+use Rattle.shard_dump.specs.Texts.{head_text, row_text, rows_text, IsHead, IsRow}
 use Rattle.shard_dump.specs.Faults.{BeginsWith, IsNext}
 use Rattle.std.specs.BTreeSet.{BTreeSet, contains}
 use Rattle.std.specs.BTreeMap.{is_at}

@@ -1,5 +1,5 @@
 -- What the entries of a shard with a legal history are: of its own keys, each once, and no more than it has room for.
-use Rattle.std.proofs.Common.{ℕ, ◌≡◌, ◌<◌, ◌≤◌, ◌+◌, ◌||◌, Bool, true, false, cond, not, max, List, [], ◌∷◌, length, filter, Option, Some, None, is_some, inl, inr, ◌⊎◌}
+use Rattle.std.proofs.Common.{ℕ, ◌≡◌, ◌<◌, ◌≤◌, ◌+◌, ◌||◌, Bool, true, false, cond, not, List, [], ◌∷◌, length, filter, Option, Some, None, is_some, ◌⊎◌}
 use Rattle.std.proofs.Common.{arith, refl, sym, ap, subst, ◌∙◌, nat_lt}
 use Rattle.std.specs.Prelude.{ℤ}
 use Rattle.std.specs.List.{list_any, AllByRecursion}
@@ -7,16 +7,15 @@ use Rattle.std.proofs.lemmas.Bool.{or_left, or_right, or_parts, or_from}
 use Rattle.std.proofs.lemmas.Bool.Decides.{nat_tests}
 use Rattle.rows_model.specs.declared.keys.QKey.{QKey}
 use Rattle.rows_model.specs.Key.{same_key}
-use Rattle.rows_model.proofs.SameKey.{same_key-true, same_key-refl, same_key-swap, Decides-same_key}
+use Rattle.rows_model.proofs.SameKey.{same_key-true, same_key-refl, same_key-swap}
 use Rattle.key_shard.specs.declared.replies.How.{How}
 use Rattle.key_shard.specs.declared.replies.How.TheVariants as hows
-use Rattle.key_shard.specs.declared.steps.Ended.{Ended}
 use Rattle.key_shard.specs.declared.steps.Ended.TheVariants.{Keep, Drop, Put, Shift}
 use Rattle.key_shard.specs.declared.steps.Step.{Step}
 use Rattle.key_shard.specs.declared.steps.Step.TheVariants.{Hit, Lease, Again, Own, Stored, Void, Granted, Held, Refused, Released, Gone, Raised, Shared, Renewed}
-use Rattle.key_shard.specs.Past.{Terms, entry, order, used, each_once, is_evicted, evicted_by, entry_shifted, entry_ended, is_put, last_key, evicts, quar_of}
+use Rattle.key_shard.specs.Past.{Terms, entry, order, used, each_once, is_evicted, entry_shifted, last_key, evicts}
 use Rattle.key_shard.specs.Answers.{Request, Get, Set, Quarantine, Release, Replace, Raise, Renew, key_of, step_of, IsAtHome, Answers, IsLegalPast, ended_as}
-use Rattle.key_shard.specs.OneStep.{step_key, other_keys, put_first, order_after, order_ended}
+use Rattle.key_shard.specs.OneStep.{step_key, other_keys, put_first, order_after}
 use Rattle.key_shard.proofs.LegalLemmas.{every-filter}
 use Rattle.key_shard.proofs.OneStepLemmas.{order_by, order-without}
 use Rattle.key_shard.specs.Permit.{Permit}

@@ -1,5 +1,5 @@
 -- A part of a dump's text is told by the bytes: one number, one head and one row stand in front at most.
-use Rattle.std.proofs.Common.{ℕ, ◌≡◌, ◌≢◌, ◌<◌, ◌≤◌, ◌^◌, ◌==◌, ◌||◌, Bool, true, false, List, [], ◌∷◌, ◌++◌, length, get_or, decimal, take, drop, Option, Some, None}
+use Rattle.std.proofs.Common.{ℕ, ◌≡◌, ◌≢◌, ◌<◌, ◌≤◌, ◌^◌, ◌==◌, ◌||◌, true, false, List, [], ◌∷◌, ◌++◌, length, decimal, Option, Some, None}
 use Rattle.std.proofs.Common.{arith, refl, sym, ap, ◌∙◌, append_assoc, IfNone, IfSome, MatchOption, eq-eqb}
 use Rattle.std.specs.Prelude.{codes, All}
 use Rattle.std.specs.List.{list_any}

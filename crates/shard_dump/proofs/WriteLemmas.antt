@@ -1,6 +1,6 @@
 -- The text that is written of a row.
-use Rattle.std.proofs.Common.{ℕ, ◌≡◌, List, [], ◌∷◌, ◌++◌, length, decimal, refl, sym, ap, ◌∙◌, append_assoc}
-use Rattle.rows_model.specs.Key.{word_of, key_text}
+use Rattle.std.proofs.Common.{ℕ, ◌≡◌, List, [], ◌∷◌, ◌++◌, length, decimal, ap, ◌∙◌, append_assoc}
+use Rattle.rows_model.specs.Key.{word_of}
 use Rattle.rows_model.proofs.KeyLemmas.{key_text_is}
 use Rattle.shard_dump.specs.declared.rows.DumpRow.{DumpRow}
 use Rattle.shard_dump.specs.Texts.{row_text}

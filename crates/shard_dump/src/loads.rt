@@ -1,4 +1,4 @@
-ghost use Rattle.std.specs.Prelude.{◌≡◌, ◌≢◌, ◌≤◌, ◌<◌, ◌-◌, ◌^◌, ◌∷◌, [], All, AllPairs, length, IfOk, IfErr, IfSome, IfNone, OnOk, OnErr, IsSome, IsTrue, None, false};
+ghost use Rattle.std.specs.Prelude.{◌≡◌, ◌≢◌, ◌≤◌, ◌<◌, ◌-◌, ◌^◌, ◌∷◌, [], AllPairs, length, IfOk, IfErr, IfSome, IfNone, OnOk, OnErr, IsSome, IsTrue, None, false};
 ghost use Rattle.key_shard.specs.Answers.{IsAtHome};
 ghost use Rattle.key_shard.specs.Past.{evicts, next_token, order, recorded};
 ghost use Rattle.lease_table.specs.Leases.{is_current};

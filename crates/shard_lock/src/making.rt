@@ -1,6 +1,5 @@
 // The shards of a new hub.
-ghost use Rattle.std.specs.Prelude.{ℕ, ◌≡◌, ◌<◌, ◌≤◌, All, IfOk, IfSome, [], length};
-ghost use Rattle.key_shard.specs.Past.{Terms};
+ghost use Rattle.std.specs.Prelude.{◌≡◌, ◌<◌, ◌≤◌, All, IfOk, IfSome, [], length};
 ghost use Rattle.shard_lock.specs.Names.{AreAll, terms_at};
 
 use key_shard::Shard;

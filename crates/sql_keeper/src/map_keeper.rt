@@ -1,4 +1,4 @@
-ghost use Rattle.std.specs.Prelude.{◌≡◌, ℕ, false, ◌+◌, ◌≤◌, ◌↔◌, Option, Some, None, Ok, Err, IsTrue, IfOk, IfErr, OnOk, OnErr, IsSome, Contains};
+ghost use Rattle.std.specs.Prelude.{◌≡◌, false, ◌+◌, ◌≤◌, ◌↔◌, Option, Some, None, Ok, Err, IsTrue, IfOk, OnOk, OnErr, IsSome, Contains};
 ghost use Rattle.std.specs.Bool.{IsFalse};
 ghost use Rattle.std.specs.Option.{ForSome};
 ghost use Rattle.iq_outside.specs.Outside.{count_up};

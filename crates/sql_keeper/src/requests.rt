@@ -1,5 +1,4 @@
-ghost use Rattle.std.specs.Prelude.{◌≡◌, false, length, ◌<◌, not, find, IfOk, IfErr, OnOk, IsSome, Some, None, vec_len, vec_capacity};
-ghost use Rattle.std.specs.Option.{option_copied};
+ghost use Rattle.std.specs.Prelude.{◌≡◌, false, length, ◌<◌, find, IfOk, IfErr, OnOk, Some, None, vec_len, vec_capacity};
 ghost use Rattle.rows_model.specs.Changes.{footprint};
 ghost use Rattle.sql_keeper.specs.Sessions.{is_open};
 ghost use Rattle.sql_keeper.specs.Commits.{is_covered, uncovered, commit_fault};

@@ -367,6 +367,31 @@ impl<K: Keeper, N: Start> Store<K, N> {
         Ok((made, opening, log))
     }
 
+    /// The store, with its keeper's count of faults at the start named anew, as it was.
+    pub fn renamed<M: Start>(self) -> Store<K, M>
+        requires { M.count ≡ N.count }
+        ensures { result ≡ self }
+    {
+        let Store {
+            keeper,
+            opening,
+            log,
+            sessions,
+            cap,
+            failed,
+            start: _,
+        } = self;
+        Store {
+            keeper,
+            opening,
+            log,
+            sessions,
+            cap,
+            failed,
+            start: PhantomData,
+        }
+    }
+
     /// The keeper, the opening rows and the log.
     pub fn into_parts(self) -> (K, Rows, Vec<Commit>)
         ensures rows { K.rows result.0 ≡ self.known_rows }

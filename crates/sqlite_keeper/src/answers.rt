@@ -1,5 +1,5 @@
 // The answer to a key on the rows as a transaction sees them.
-ghost use Rattle.std.specs.Prelude.{◌≡◌, IfOk, OnOk};
+ghost use Rattle.std.specs.Prelude.{◌≡◌, IfOk};
 ghost use Rattle.rows_model.specs.declared.keys.Kind.TheVariants.{Profile, Friends, Pending, NFriends, NPending, Blocked};
 ghost use Rattle.rows_model.specs.Rows.{Fit};
 ghost use Rattle.rows_model.specs.Query.{answer, answer_of};

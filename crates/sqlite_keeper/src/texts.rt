@@ -1,7 +1,6 @@
 // The texts of answers, out of the pairs that name a member first and those that name it second.
 ghost use Rattle.std.specs.Prelude.{◌≡◌, ◌++◌, ◌∷◌, ◌≤◌, count_by, length, decimal, IfOk};
 ghost use Rattle.rows_model.specs.Query.{id_list};
-ghost use Rattle.sqlite_tables.specs.Lists.{state_number};
 ghost use Rattle.sqlite_tables.specs.declared.pairs.PairState.TheVariants.{Pending, Friend, Block};
 ghost use Rattle.sqlite_keeper.specs.Texts.{has_state, firsts, seconds, friends_told};
 

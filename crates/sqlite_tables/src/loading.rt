@@ -1,4 +1,4 @@
-ghost use Rattle.std.specs.Prelude.{◌≡◌, ◌≤◌, ◌<◌, ◌<ℤ◌, ◌++◌, [], ◌∷◌, length, map, All, AllPairs, IsPermutation, IsTrue, IfOk, IfErr, OnOk, ◌⊎◌};
+ghost use Rattle.std.specs.Prelude.{◌≡◌, ◌≤◌, ◌<◌, ◌<ℤ◌, ◌++◌, [], ◌∷◌, map, All, AllPairs, IsPermutation, IsTrue, IfOk, IfErr, OnOk, ◌⊎◌};
 ghost use Rattle.sqlite_trees.specs.View.{doubt};
 ghost use Rattle.sqlite_trees.specs.Tree.{rowid};
 ghost use Rattle.sqlite.specs.declared.types.Value.TheVariants.{Int};

@@ -9,3 +9,5 @@ mod loads;
 mod outsides;
 #[cfg(test)]
 mod servers;
+#[cfg(test)]
+mod two_loads;

@@ -1,3 +1,4 @@
+use run_inputs::WorkSpec;
 use run_words::{Conns, Words, WordsFault, read_words};
 use sql_keeper::Place;
 use std::alloc::{AllocError, Global};
@@ -32,20 +33,31 @@ fn conns_text(alloc: Global, conns: Conns) -> Result<String, AllocError> {
     }
 }
 
+// The words of a load, behind the command's name.
+fn load_text(
+    alloc: Global,
+    name: &str,
+    place: &Place,
+    spec: &WorkSpec,
+) -> Result<String, AllocError> {
+    format!(in alloc;
+        "{name}{} {} {} {} {} {}",
+        place_text(alloc, place)?,
+        spec.members,
+        spec.sessions,
+        spec.workers,
+        spec.shards,
+        spec.seed
+    )
+}
+
 // What is read of words, as one line: the command with its place and its numbers, the first line of a
 // text, or the fault.
 fn words_text(alloc: Global, words: &[Vec<u8>]) -> Result<String, AllocError> {
     match read_words(alloc, words) {
         Ok(Words::Replay { place }) => format!(in alloc; "replay{}", place_text(alloc, &place)?),
-        Ok(Words::Work { place, spec }) => format!(in alloc;
-            "work{} {} {} {} {} {}",
-            place_text(alloc, &place)?,
-            spec.members,
-            spec.sessions,
-            spec.workers,
-            spec.shards,
-            spec.seed
-        ),
+        Ok(Words::Work { place, spec }) => load_text(alloc, "work", &place, &spec),
+        Ok(Words::Warm { place, spec }) => load_text(alloc, "warm", &place, &spec),
         Ok(Words::Serve { place, spec }) => format!(in alloc;
             "serve{} {} {} {} {} {}",
             place_text(alloc, &place)?,
@@ -77,11 +89,12 @@ fn reads(rt: &impl Abort, alloc: Global, line: &str, want: &str) {
 }
 
 /// Lines that are read as they stand.
-const COMMANDS: [&str; 15] = [
+const COMMANDS: [&str; 17] = [
     "replay",
     "work 1 0 1 1 0",
     "work 100000 500000 1024 64 18446744073709551615",
     "work 1000 20000 4 8 1",
+    "warm 1000 20000 4 8 1",
     "serve 127.0.0.1:0 1 1 1 1",
     "serve localhost:11211 1000000 1024 64 100000",
     "serve é 7 6 5 4",
@@ -91,6 +104,7 @@ const COMMANDS: [&str; 15] = [
     "replay --db a.db",
     "replay --db data/é.db",
     "work --db a.db 3 10 2 1 7",
+    "warm --db a.db 3 10 2 1 7",
     "serve --db /a.db a:1 1 2 3 4",
     "serve --db serve serve 1 2 3 4",
 ];
@@ -103,7 +117,7 @@ fn commands_are_read_as_they_stand(rt: HostRuntime) {
 }
 
 /// Lines that are no command's.
-const NONE: [&str; 56] = [
+const NONE: [&str; 59] = [
     "",
     "play",
     "Replay",
@@ -124,6 +138,9 @@ const NONE: [&str; 56] = [
     "work +3 10 2 1 7",
     "work 3 10 2 1 -7",
     "work a:1 3 10 2 1",
+    "warm",
+    "warm 3 10 2 1 7 1",
+    "warm work 3 10 2 1 7",
     "serve",
     "serve a:1 1 1 1",
     "serve a:1 1 1 1 1 1",

@@ -20,10 +20,12 @@ use Rattle.conn_server.specs.declared.ends.LineEnd.{LineEnd}
 use Rattle.door_workers.specs.Ends.{AreHandedBack, AreServed}
 use Rattle.run_words.specs.declared.words.Conns.{Conns}
 use Rattle.run_words.proofs.WordLemmas.{one_conns}
-use Rattle.top_run.specs.Commands.{AreLines, AreNoCommand, IsUnread, IsReading, IsRefused, EndedAs, CommandEnded, LinesEnded}
-use Rattle.top_run.specs.Runs.{Held, Tells, Left, IsUnasked, Ended, most_taken, is_door_fault}
+use Rattle.top_run.specs.declared.runs.Phase.{Phase}
+use Rattle.top_run.specs.Commands.{AreEarlier, AreLines, AreNoCommand, IsUnread, IsReading, IsRefused, EndedAs, CommandEnded, LeavesEarlier, LinesEnded}
+use Rattle.top_run.specs.Warms.{HasStoppedFirst, WarmEnded, first_of, nothing_left}
+use Rattle.top_run.specs.Runs.{Held, Tells, Left, IsNotStarted, IsUnasked, Ended, most_taken, is_door_fault}
 use Rattle.top_run.specs.Serves.{Course, ServeEnded}
-use Rattle.run_words.specs.Words.{AreServe, AreWords, most_served, with_place}
+use Rattle.run_words.specs.Words.{AreServe, AreWarm, AreWords, most_served, with_place}
 use Rattle.run_words.specs.Reading.{AreReadAs, IsRead}
 use Rattle.top_run.specs.Works.{WorkEnded}
 use Rattle.top_run.proofs.ServeLemmas.{AreSame, same_server}
@@ -38,6 +40,7 @@ Accepts spoken read = (command : Words) → AreWords spoken command → MatchRes
 abbrev first_word : Words → List ℕ
 first_word (words.Replay at) = codes "replay"
 first_word (words.Work at spec) = codes "work"
+first_word (words.Warm at spec) = codes "warm"
 first_word (words.Serve at spec) = codes "serve"
 first_word (words.Page text) = []
 
@@ -53,6 +56,7 @@ begins_with spoken others place first values written is =
 is_first : (spoken : List (List ℕ)) (command : Words) → AreWords spoken command → get_or spoken 0 [] ≡ first_word command
 is_first spoken (words.Replay at) h = begins_with spoken h.others h.place _ _ h.written h.are_command.1
 is_first spoken (words.Work at spec) h = begins_with spoken h.others h.place _ _ h.written h.are_command.1.written
+is_first spoken (words.Warm at spec) h = begins_with spoken h.others h.place _ _ h.written h.are_command.1.written
 is_first spoken (words.Serve at spec) h = begins_with spoken h.others h.place _ _ h.written h.are_command.1.written
 is_first spoken (words.Page text) h = absurd h.are_command
 
@@ -71,6 +75,24 @@ work_or_serve : (spoken : List (List ℕ)) (at place : Place) (spec : WorkSpec) 
     → AreWords spoken (words.Work at spec) → AreWords spoken (words.Serve place other) → ⊥
 work_or_serve spoken at place spec other h k =
     let same : codes "work" ≡ codes "serve" = sym (is_first spoken (words.Work at spec) h) ∙ is_first spoken (words.Serve place other) k in
+    absurd cc
+
+replay_or_warm : (spoken : List (List ℕ)) (at place : Place) (spec : WorkSpec) → AreWords spoken (words.Replay at) → AreWords spoken (words.Warm place spec) → ⊥
+replay_or_warm spoken at place spec h k =
+    let same : codes "replay" ≡ codes "warm" = sym (is_first spoken (words.Replay at) h) ∙ is_first spoken (words.Warm place spec) k in
+    absurd cc
+
+work_or_warm : (spoken : List (List ℕ)) (at place : Place) (spec other : WorkSpec)
+    → AreWords spoken (words.Work at spec) → AreWords spoken (words.Warm place other) → ⊥
+work_or_warm spoken at place spec other h k =
+    let same : codes "work" ≡ codes "warm" = sym (is_first spoken (words.Work at spec) h) ∙ is_first spoken (words.Warm place other) k in
+    let second : 111 ≡ 97 = ap (λ (word : List ℕ). get_or word 1 0) same in
+    absurd (omega (arith, second))
+
+warm_or_serve : (spoken : List (List ℕ)) (at place : Place) (spec : WorkSpec) (other : ServeSpec)
+    → AreWords spoken (words.Warm at spec) → AreWords spoken (words.Serve place other) → ⊥
+warm_or_serve spoken at place spec other h k =
+    let same : codes "warm" ≡ codes "serve" = sym (is_first spoken (words.Warm at spec) h) ∙ is_first spoken (words.Serve place other) k in
     absurd cc
 
 -- words that are as many without those of their places are the same, at the same place
@@ -106,6 +128,19 @@ same_load spoken spec other h k =
     let with : ℕ → ℕ → ℕ → ℕ → ℕ → WorkSpec = λ m n w x d. record { members = m; sessions = n; workers = w; shards = x; seed = d } in
     let e : with spec.members spec.sessions spec.workers spec.shards spec.seed ≡ with other.members other.sessions other.workers other.shards other.seed = cc in
     e
+
+-- so are those of one and then the next
+six_warm : (others : List (List ℕ)) (spec : WorkSpec) → AreWarm others spec → length others ≡ 6
+six_warm others spec h =
+    let all = ap (λ (ws : List (List ℕ)). length ws) h.written in
+    let behind = ap (λ (ws : List (List ℕ)). length ws) h.are_load.written in
+    omega (arith, all, behind)
+
+same_warm : (spoken : List (List ℕ)) (spec other : WorkSpec) → AreWarm spoken spec → AreWarm spoken other → spec ≡ other
+same_warm spoken spec other h k =
+    let written = sym h.written ∙ k.written in
+    let same : h.numbers ≡ k.numbers = cc in
+    same_load (codes "work" ∷ k.numbers) spec other (subst (λ (ws : List (List ℕ)). AreWork (codes "work" ∷ ws) spec) same h.are_load) k.are_load
 
 -- and of one server's numbers
 same_conns : (spoken : List (List ℕ)) (spec other : ServeSpec) → AreServe spoken spec → AreServe spoken other → spec.conns ≡ other.conns
@@ -153,6 +188,23 @@ took_none course same = (
   omega arith,
 )
 
+-- nothing is left then, of no load
+unwarmed : (spec : WorkSpec) (course : Course) → IsRefused course → HasStoppedFirst status.Memory spec course
+unwarmed spec course refused =
+    let none : first_of course.earlier ≡ nothing_left = ap first_of refused.none_earlier in
+    let left : course.left ≡ nothing_left = left_none course.left refused.nothing.no_opening refused.nothing.no_log refused.nothing.no_histories in
+    record {
+      stopped = inl (
+        unasked_of course refused.same,
+        subst (λ (left : Left). IsNotStarted course.before course.after left course.written) (left ∙ sym none) refused.nothing,
+      );
+      few = subst (λ (earlier : List Left). length earlier ≤ 1) (sym refused.none_earlier) (omega arith);
+      none_left = left;
+    }
+  where
+    left_none : (left : Left) → left.opening ≡ None → left.log ≡ [] → left.histories ≡ [] → left ≡ nothing_left
+    left_none left opening log histories = λ i. record { opening = opening i; log = log i; histories = histories i }
+
 -- ---- how a command ends, by what its words were read as
 
 -- as what they were read as, which they are too
@@ -170,6 +222,13 @@ ended_alike spoken (words.Work at spec) (words.Work place other) h k ended cours
     let load : spec ≡ other = same_load k.others spec other (subst (λ (ws : List (List ℕ)). AreWork ws spec) same.1 h.are_command.1) k.are_command.1 in
     subst (λ (s : WorkSpec). EndedAs (Ok (words.Work place s)) ended courses) load
     (subst (λ (p : Place). EndedAs (Ok (words.Work p spec)) ended courses) (h.are_command.0 ∙ same.0 ∙ sym k.are_command.0) e)
+ended_alike spoken (words.Warm at spec) (words.Warm place other) h k ended courses e =
+    let six = six_warm h.others spec h.are_command.1 in
+    let six' = six_warm k.others other k.are_command.1 in
+    let same = alike spoken (words.Warm at spec) (words.Warm place other) h k (omega (arith, six)) (six ∙ sym six') in
+    let load : spec ≡ other = same_warm k.others spec other (subst (λ (ws : List (List ℕ)). AreWarm ws spec) same.1 h.are_command.1) k.are_command.1 in
+    subst (λ (s : WorkSpec). EndedAs (Ok (words.Warm place s)) ended courses) load
+    (subst (λ (p : Place). EndedAs (Ok (words.Warm p spec)) ended courses) (h.are_command.0 ∙ same.0 ∙ sym k.are_command.0) e)
 ended_alike spoken (words.Serve at spec) (words.Serve place other) h k ended courses e =
     let six : length h.others ≡ 6 = ap length h.are_command.1.written in
     let six' : length k.others ≡ 6 = ap length k.are_command.1.written in
@@ -186,6 +245,12 @@ ended_alike spoken (words.Work at spec) (words.Replay place) h k ended courses e
 ended_alike spoken (words.Work at spec) (words.Serve place other) h k ended courses e = absurd (work_or_serve spoken at place spec other h k)
 ended_alike spoken (words.Serve at spec) (words.Replay place) h k ended courses e = absurd (replay_or_serve spoken place at spec k h)
 ended_alike spoken (words.Serve at spec) (words.Work place other) h k ended courses e = absurd (work_or_serve spoken place at other spec k h)
+ended_alike spoken (words.Replay at) (words.Warm place spec) h k ended courses e = absurd (replay_or_warm spoken at place spec h k)
+ended_alike spoken (words.Work at spec) (words.Warm place other) h k ended courses e = absurd (work_or_warm spoken at place spec other h k)
+ended_alike spoken (words.Warm at spec) (words.Replay place) h k ended courses e = absurd (replay_or_warm spoken place at spec k h)
+ended_alike spoken (words.Warm at spec) (words.Work place other) h k ended courses e = absurd (work_or_warm spoken place at other spec k h)
+ended_alike spoken (words.Warm at spec) (words.Serve place other) h k ended courses e = absurd (warm_or_serve spoken at place spec other h k)
+ended_alike spoken (words.Serve at spec) (words.Warm place other) h k ended courses e = absurd (warm_or_serve spoken place at other spec k h)
 ended_alike spoken (words.Page text) command h k ended courses e = absurd h.are_command
 ended_alike spoken found (words.Page text) h k ended courses e = absurd k.are_command
 
@@ -205,6 +270,13 @@ ended_unread spoken (words.Work at spec) k ended courses e =
       unread_of course refused.same,
       subst (λ (s : Status). WorkEnded s spec course.held course.before course.after course.left course.written) (sym e.0)
           (inl (unasked_of course refused.same, refused.nothing)),
+      refused.unserved,
+    )
+ended_unread spoken (words.Warm at spec) k ended courses e =
+    let course = courses at in
+    let refused : IsRefused course = e.1 at in (
+      unread_of course refused.same,
+      subst (λ (s : Status). WarmEnded s spec course) (sym e.0) (inl (unwarmed spec course refused)),
       refused.unserved,
     )
 ended_unread spoken (words.Serve at spec) k ended courses e =
@@ -274,6 +346,14 @@ server_no_replay spoken read found at spec accepts first then place are =
     as_read (accepts (words.Replay place) are) in
     replay_or_serve spoken place at spec are serve
 
+pub warm_no_replay : (spoken : List (List ℕ)) (read : Result Words WordsFault) (found : Words) (at : Place) (spec : WorkSpec)
+    → Accepts spoken read → read ≡ Ok found → found ≡ words.Warm at spec → (place : Place) → AreWords spoken (words.Replay place) → ⊥
+warm_no_replay spoken read found at spec accepts first then place are =
+    let as_read : read ≡ Ok (words.Warm at spec) = cc in
+    let warm : AreWords spoken (words.Warm at spec) = subst (λ (r : Result Words WordsFault). MatchResult r (AreWords spoken) (λ why. why ≡ fault.Memory))
+    as_read (accepts (words.Replay place) are) in
+    replay_or_warm spoken place at spec are warm
+
 -- words that are refused are no command
 pub no_command : (spoken : List (List ℕ)) (read : Result Words WordsFault) → Accepts spoken read
     → (read ≡ Err fault.Usage → (command : Words) → AreReadAs spoken command → ⊥)
@@ -312,6 +392,31 @@ load_no_door status.KeepFault spec held before after left written h = refl
 load_no_door (status.Spent shard) spec held before after left written h = refl
 load_no_door status.Memory spec held before after left written h = refl
 
+pub warm_not_failed : (ended : Status) (spec : WorkSpec) (course : Course) → WarmEnded ended spec course
+    → course.after.keeps_failed ≡ course.before.keeps_failed → course.before.keeps_failed < 2 ^ 64 - 1 → ended ≡ status.KeepFault → ⊥
+warm_not_failed ended spec course h same below is = by (subst (λ (e : Status). WarmEnded e spec course) is h)
+  where
+    by : WarmEnded status.KeepFault spec course → ⊥
+    by (inl first) = not_rose course.before.keeps_failed course.after.keeps_failed first.stopped.0 same below
+    by (inr (inl between)) = absurd between.is_part
+    by (inr (inr second)) = not_rose course.before.keeps_failed course.after.keeps_failed second.0 same below
+
+no_door_of_two : (spec : WorkSpec) (course : Course) → WarmEnded status.DoorFault spec course → ⊥
+no_door_of_two spec course (inl first) = absurd first.stopped
+no_door_of_two spec course (inr (inl between)) = absurd between.is_part
+no_door_of_two spec course (inr (inr second)) = absurd second
+
+pub warm_no_door : (ended : Status) (spec : WorkSpec) (course : Course) → WarmEnded ended spec course → is_door_fault ended ≡ false
+warm_no_door status.Done spec course h = refl
+warm_no_door status.Usage spec course h = refl
+warm_no_door (status.Script row kind) spec course h = refl
+warm_no_door status.ReadFault spec course h = refl
+warm_no_door status.WriteFault spec course h = refl
+warm_no_door status.DoorFault spec course h = absurd (no_door_of_two spec course h)
+warm_no_door status.KeepFault spec course h = refl
+warm_no_door (status.Spent shard) spec course h = refl
+warm_no_door status.Memory spec course h = refl
+
 pub server_not_failed : (ended : Status) (spec : ServeSpec) (course : Course) → ServeEnded ended spec course
     → course.after.keeps_failed ≡ course.before.keeps_failed → course.before.keeps_failed < 2 ^ 64 - 1 → ended ≡ status.KeepFault → ⊥
 server_not_failed ended spec course h same below is =
@@ -329,6 +434,7 @@ lines_of : (command : Words) (ends : List LineEnd) (before after : Option (List 
     → LinesEnded (Ok command) ends before after
 lines_of (words.Replay at) ends before after are = are
 lines_of (words.Work at spec) ends before after are = are
+lines_of (words.Warm at spec) ends before after are = are
 lines_of (words.Serve at spec) ends before after are = all_served (most_served spec.conns) ends before after are
 lines_of (words.Page text) ends before after are = are
 
@@ -336,6 +442,7 @@ lines_alike : (spoken : List (List ℕ)) (found command : Words) → AreWords sp
     → (ends : List LineEnd) (before after : Option (List LineRecord)) → LinesEnded (Ok found) ends before after → LinesEnded (Ok command) ends before after
 lines_alike spoken (words.Replay at) command h k ends before after are = lines_of command ends before after are
 lines_alike spoken (words.Work at spec) command h k ends before after are = lines_of command ends before after are
+lines_alike spoken (words.Warm at spec) command h k ends before after are = lines_of command ends before after are
 lines_alike spoken (words.Serve at spec) (words.Serve place other) h k ends before after are =
     let six : length h.others ≡ 6 = ap length h.are_command.1.written in
     let six' : length k.others ≡ 6 = ap length k.are_command.1.written in
@@ -344,6 +451,7 @@ lines_alike spoken (words.Serve at spec) (words.Serve place other) h k ends befo
     subst (λ (conns : Conns). AreServed (most_served conns) ends before after) (same_conns k.others spec other too k.are_command.1) are
 lines_alike spoken (words.Serve at spec) (words.Replay place) h k ends before after are = absurd (replay_or_serve spoken place at spec k h)
 lines_alike spoken (words.Serve at spec) (words.Work place other) h k ends before after are = absurd (work_or_serve spoken place at other spec k h)
+lines_alike spoken (words.Serve at spec) (words.Warm place other) h k ends before after are = absurd (warm_or_serve spoken place at other spec k h)
 lines_alike spoken (words.Serve at spec) (words.Page text) h k ends before after are = absurd k.are_command
 lines_alike spoken (words.Page text) command h k ends before after are = absurd h.are_command
 
@@ -375,3 +483,54 @@ pub lines_err : (spoken : List (List ℕ)) (read : Result Words WordsFault) (end
 lines_err spoken read ends before after accepts is usage why first are =
     are_lines spoken read ends before after accepts (reading_of spoken read accepts is usage)
     (subst (λ (r : Result Words WordsFault). LinesEnded r ends before after) (sym first) are)
+
+-- ---- what loads left that ended before, by what the words were read as
+
+-- where there is none
+none_left_of : (command : Words) (earlier : List Phase) → earlier ≡ [] → LeavesEarlier (Ok command) earlier
+none_left_of (words.Replay at) earlier none = none
+none_left_of (words.Work at spec) earlier none = none
+none_left_of (words.Warm at spec) earlier none = tt
+none_left_of (words.Serve at spec) earlier none = none
+none_left_of (words.Page text) earlier none = none
+
+earlier_alike : (spoken : List (List ℕ)) (found command : Words) → AreWords spoken found → AreWords spoken command → (earlier : List Phase)
+    → LeavesEarlier (Ok found) earlier → LeavesEarlier (Ok command) earlier
+earlier_alike spoken (words.Replay at) command h k earlier none = none_left_of command earlier none
+earlier_alike spoken (words.Work at spec) command h k earlier none = none_left_of command earlier none
+earlier_alike spoken (words.Serve at spec) command h k earlier none = none_left_of command earlier none
+earlier_alike spoken (words.Page text) command h k earlier none = none_left_of command earlier none
+earlier_alike spoken (words.Warm at spec) (words.Warm place other) h k earlier any = tt
+earlier_alike spoken (words.Warm at spec) (words.Replay place) h k earlier any = absurd (replay_or_warm spoken place at spec k h)
+earlier_alike spoken (words.Warm at spec) (words.Work place other) h k earlier any = absurd (work_or_warm spoken place at other spec k h)
+earlier_alike spoken (words.Warm at spec) (words.Serve place other) h k earlier any = absurd (warm_or_serve spoken at place spec other h k)
+earlier_alike spoken (words.Warm at spec) (words.Page text) h k earlier any = absurd k.are_command
+
+worded_earlier : (spoken : List (List ℕ)) (read : Result Words WordsFault) (earlier : List Phase) → Accepts spoken read → LeavesEarlier read earlier
+    → (command : Words) → AreWords spoken command → LeavesEarlier (Ok command) earlier
+worded_earlier spoken (Ok found) earlier accepts left command is = earlier_alike spoken found command (accepts command is) is earlier left
+worded_earlier spoken (Err why) earlier accepts none command is = none_left_of command earlier none
+
+are_earlier : (spoken : List (List ℕ)) (read : Result Words WordsFault) (earlier : List Phase) → Accepts spoken read → IsReading spoken read
+    → LeavesEarlier read earlier → AreEarlier spoken earlier
+are_earlier spoken read earlier accepts reading left = record {
+  worded = worded_earlier spoken read earlier accepts left;
+  read = read;
+  is_reading = reading;
+  left = left;
+}
+
+pub earlier_ok : (spoken : List (List ℕ)) (read : Result Words WordsFault) (earlier : List Phase)
+    → Accepts spoken read → IfOk read (IsRead spoken) → (read ≡ Err fault.Usage → (command : Words) → AreReadAs spoken command → ⊥)
+    → (found command : Words) → read ≡ Ok found → found ≡ command → LeavesEarlier (Ok command) earlier → AreEarlier spoken earlier
+earlier_ok spoken read earlier accepts is usage found command first then left =
+    let as_read : read ≡ Ok command = cc in
+    are_earlier spoken read earlier accepts (reading_of spoken read accepts is usage)
+    (subst (λ (r : Result Words WordsFault). LeavesEarlier r earlier) (sym as_read) left)
+
+pub earlier_err : (spoken : List (List ℕ)) (read : Result Words WordsFault) (earlier : List Phase)
+    → Accepts spoken read → IfOk read (IsRead spoken) → (read ≡ Err fault.Usage → (command : Words) → AreReadAs spoken command → ⊥)
+    → (why : WordsFault) → read ≡ Err why → earlier ≡ [] → AreEarlier spoken earlier
+earlier_err spoken read earlier accepts is usage why first none =
+    are_earlier spoken read earlier accepts (reading_of spoken read accepts is usage)
+    (subst (λ (r : Result Words WordsFault). LeavesEarlier r earlier) (sym first) none)

@@ -4,10 +4,15 @@ pub mod PlayLemmas
 pub mod PlayStates
 pub mod KeepLemmas
 pub mod LeftLemmas
+pub mod WarmLemmas
+pub mod WarmingLemmas
+pub mod WarmEnds
+pub mod AnewLemmas
 pub mod SessionLemmas
 pub mod RunLemmas
 pub mod SummaryLemmas
 pub mod WorkLemmas
+pub mod SecondLemmas
 pub mod ServeLemmas
 pub mod CommandLemmas
 pub mod ReadyLemmas

@@ -4,7 +4,7 @@ use Rattle.std.proofs.Common.{Option, Some, None, refl, sym, ap, subst, ◌∙�
 use Rattle.std.specs.Prelude.{count_by, sum_by, slice_get, option_map, is_some}
 use Rattle.std.specs.List.{AllByRecursion, IsDistinct, list_any, range_with_len}
 use Rattle.std.proofs.lemmas.Bool.{false≢true, cases_Bool, eq-eqb, eqb-true, lt-ltb, or_left, or_right}
-use Rattle.std.proofs.lemmas.List.{append-nil, drop_all, length-map, reverse-append, take_all}
+use Rattle.std.proofs.lemmas.List.{append-nil, drop_all, drop_at, length-map, length-reverse, reverse-append, reverse-reverse, take_all}
 use Rattle.std.proofs.lemmas.List.Elements.{All-get_or, All-head, All-tail, All-weaker}
 use Rattle.std.proofs.lemmas.List.Sorted.{list_any-IsPermutation, IsPermutation-reverse}
 use Rattle.std.proofs.lemmas.List.Sums.{sum_by-cons}
@@ -74,7 +74,8 @@ use Rattle.run_inputs.specs.declared.loads.WorkSpec.{WorkSpec}
 use Rattle.run_inputs.specs.Loads.{IsWork, load, plan_at, sessions_of}
 use Rattle.run_inputs.proofs.LoadLemmas.{plan_at_is}
 use Rattle.top_run.specs.Ready.{AreNewDesks, AreNewViews, AreRecorded, AsksFirst, HaveWorked}
-use Rattle.top_run.specs.Works.{names, AreUnspent, IsNamedIn, HaveRun}
+use Rattle.top_run.specs.Works.{names, AreUnspent, IsNamedIn}
+use Rattle.top_run.specs.Warming.{HaveRunSince, since_of, since_in}
 
 -- ---- what a session asks for first
 
@@ -315,7 +316,19 @@ reverse_draws (s ∷ past) =
 
 -- ---- what a hub leaves
 
-module _ (opening : Tables) (terms : ℕ → Terms) (before : ℕ → List Step) (none : (place : ℕ) → before place ≡ [])
+-- the steps of a shard since it was handed in are those behind the steps before
+since_is : (before : ℕ → List Step) (shard : ShardView) (more : List Step) → reverse shard.history ≡ more ++ before shard.terms.no
+    → reverse (since_of before shard) ≡ more
+since_is before shard more goes_on =
+    let base = before shard.terms.no in
+    let whole : shard.history ≡ reverse base ++ reverse more =
+    sym (reverse-reverse shard.history) ∙ ap (λ (l : List Step). reverse l) goes_on ∙ reverse-append more base in
+    let behind : since_of before shard ≡ reverse more =
+    ap (λ (l : List Step). drop (length base) l) whole
+    ∙ drop_at (reverse base) (reverse more) (length base) (omega (arith, length-reverse base)) in
+    ap (λ (l : List Step). reverse l) behind ∙ reverse-reverse more
+
+module _ (opening : Tables) (terms : ℕ → Terms) (before : ℕ → List Step)
     (from_one : (place : ℕ) → (terms place).first ≡ 1) (store : StoreView) (seen : Seen) (shards : List ShardView) (all : AreAll terms shards)
     (left : All (IsLeft opening before store seen) shards) where
   at_place : (P : ShardView → Type 0) (place : ℕ) (shard : ShardView) → All P shards → slice_get shards place ≡ Some shard → P shard
@@ -340,11 +353,11 @@ module _ (opening : Tables) (terms : ℕ → Terms) (before : ℕ → List Step)
         kept = at_place (IsLeft opening before store seen) home there.0 left there.1;
       }
 
-  all_since : (shard : ShardView) (kept : IsLeft opening before store seen shard) → reverse shard.history ≡ kept.more
-  all_since shard kept = kept.goes_on ∙ ap (λ (l : List Step). kept.more ++ l) (none shard.terms.no) ∙ append-nil kept.more
+  all_since : (shard : ShardView) (kept : IsLeft opening before store seen shard) → reverse (since_of before shard) ≡ kept.more
+  all_since shard kept = since_is before shard kept.more kept.goes_on
 
   -- a session that a step names that was seen is named in the histories
-  named_in : (who : Sid) (old : Seen) → IsBeginning old seen → IsNamed (length shards) who old → IsNamedIn (histories_in shards) who
+  named_in : (who : Sid) (old : Seen) → IsBeginning old seen → IsNamed (length shards) who old → IsNamedIn (since_in before shards) who
   named_in who old begins h =
       let home = home_of h.step.key in
       let shard = home.shard in
@@ -356,9 +369,9 @@ module _ (opening : Tables) (terms : ℕ → Terms) (before : ℕ → List Step)
       let in_more = among_goes_on h.step (steps_of number seen.steps) (shorts_of (before number) home.kept.more) home.kept.shorts_are in_seen in
       record {
         place = place;
-        history = shard.history;
-        there = slice_get-map (λ (s : ShardView). s.history) shards place ∙ ap (λ (o : Option ShardView). option_map (λ (s : ShardView). s.history) o) home.there;
-        named = list_any-IsPermutation (names who) shard.history (reverse shard.history) (IsPermutation-reverse shard.history)
+        history = since_of before shard;
+        there = slice_get-map (since_of before) shards place ∙ ap (λ (o : Option ShardView). option_map (since_of before) o) home.there;
+        named = list_any-IsPermutation (names who) (since_of before shard) (reverse (since_of before shard)) (IsPermutation-reverse (since_of before shard))
             ∙ ap (list_any (names who)) (all_since shard home.kept) ∙ step_names (before number) home.kept.more who h.step in_more h.kind h.named;
       }
 
@@ -380,13 +393,14 @@ module _ (opening : Tables) (terms : ℕ → Terms) (before : ℕ → List Step)
       (All-get_or (λ (history : List Step). count_by draws history < 2 ^ 64 - 2) (histories_in shards) place shard.history
       (slice_get_within (histories_in shards) place shard.history in_place) unspent) in
       let some = start_draws (before place) h.more home.kept.more begins_all in
-      let here : count_by draws home.kept.more ≡ count_by draws shard.history =
-      ap (count_by draws) (sym (all_since shard home.kept)) ∙ reverse_draws shard.history in
-      let drawn : count_by draws (h.more ++ before place) ≡ count_by draws h.more =
-      ap (count_by draws) (ap (λ (l : List Step). h.more ++ l) (none place) ∙ append-nil h.more) in
+      let here : count_by draws shard.history ≡ count_by draws home.kept.more + count_by draws (before number) =
+      sym (reverse_draws shard.history) ∙ ap (count_by draws) home.kept.goes_on ∙ count-append draws home.kept.more (before number) in
+      let same : count_by draws (before number) ≡ count_by draws (before place) = ap (λ n. count_by draws (before n)) home.number in
+      let drawn : count_by draws (h.more ++ before place) ≡ count_by draws h.more + count_by draws (before place) =
+      count-append draws h.more (before place) in
       let last = h.last in
       let first = from_one place in
-      omega (arith, few, some, here, drawn, last, first)
+      omega (arith, few, some, here, same, drawn, last, first)
     where
       in_place : slice_get (histories_in shards) (shard_of key (length shards)) ≡ Some (home_of key).shard.history
       in_place = slice_get-map (λ (s : ShardView). s.history) shards (shard_of key (length shards))
@@ -396,7 +410,7 @@ module _ (opening : Tables) (terms : ℕ → Terms) (before : ℕ → List Step)
 
   -- what a first request leaves is a step that names the session, unless memory ran out
   first_is_named : (who : Sid) (reply : Reply) → AreUnspent (histories_in shards) → ShowsFirst terms before (length shards) who reply seen
-      → (reply ≡ Reply.Fault fault.Memory → ⊥) → IsNamedIn (histories_in shards) who
+      → (reply ≡ Reply.Fault fault.Memory → ⊥) → IsNamedIn (since_in before shards) who
   first_is_named who (Reply.Fault fault.Memory) unspent h had = absurd (had refl)
   first_is_named who (Reply.Fault fault.Keep) unspent h had = absurd h
   first_is_named who (Reply.Fault fault.Spent) unspent h had = absurd (not_spent unspent h.0 seen (beginning_same seen) h.1)
@@ -415,7 +429,7 @@ module _ (opening : Tables) (terms : ℕ → Terms) (before : ℕ → List Step)
   -- a session of a row is named, and is the one that its calls began
   row_is_named : (worker : ℕ) (plan : Plan) (calls behind : List Exchange) (row : RowView) → AsksFirst plan → AreUnspent (histories_in shards)
       → IsRow plan calls row → AreCallsSeen terms before (length shards) worker (calls ++ behind) seen
-      → IsNamedIn (histories_in shards) row.sid × (began_in calls ≡ row.sid ∷ [])
+      → IsNamedIn (since_in before shards) row.sid × (began_in calls ≡ row.sid ∷ [])
   row_is_named worker plan calls behind row asks unspent is h =
       let run = is.has_run in
       let asked = has_heard row.sid plan run.short run.heard calls asks run.went run.over in
@@ -434,14 +448,14 @@ module _ (opening : Tables) (terms : ℕ → Terms) (before : ℕ → List Step)
 
   -- so are all sessions of a worker
   record AreNamed (plans : List Plan) (calls : List Exchange) : Type 0 where
-    named : AllByRecursion (IsNamedIn (histories_in shards)) (began_in calls)
+    named : AllByRecursion (IsNamedIn (since_in before shards)) (began_in calls)
     as_many : length (began_in calls) ≡ length plans
 
   rows_are_named : (worker : ℕ) (plans : List Plan) (calls behind : List Exchange) (rows : List RowView) → AllByRecursion AsksFirst plans
       → AreUnspent (histories_in shards) → AreRows plans calls rows → AreCallsSeen terms before (length shards) worker (calls ++ behind) seen
       → AreNamed plans calls
   rows_are_named worker [] calls behind [] asks unspent h seen_calls =
-      record { named = subst (λ l. AllByRecursion (IsNamedIn (histories_in shards)) (began_in l)) (sym h) tt; as_many = ap (λ l. length (began_in l)) h }
+      record { named = subst (λ l. AllByRecursion (IsNamedIn (since_in before shards)) (began_in l)) (sym h) tt; as_many = ap (λ l. length (began_in l)) h }
   rows_are_named worker [] calls behind (row ∷ rows) asks unspent h seen_calls = absurd h
   rows_are_named worker (plan ∷ plans) calls behind [] asks unspent h seen_calls = absurd h
   rows_are_named worker (plan ∷ plans) calls behind (row ∷ rows) asks unspent h seen_calls =
@@ -454,8 +468,8 @@ module _ (opening : Tables) (terms : ℕ → Terms) (before : ℕ → List Step)
       let began : began_in calls ≡ began_in later ++ row.sid ∷ [] =
       ap began_in h.4 ∙ began_both later first ∙ ap (λ l. began_in later ++ l) one.1 in
       record {
-        named = subst (AllByRecursion (IsNamedIn (histories_in shards))) (sym began)
-            (every-append (IsNamedIn (histories_in shards)) (began_in later) (row.sid ∷ []) rest.named (one.0, tt));
+        named = subst (AllByRecursion (IsNamedIn (since_in before shards))) (sym began)
+            (every-append (IsNamedIn (since_in before shards)) (began_in later) (row.sid ∷ []) rest.named (one.0, tt));
         as_many =
             let many = ap (λ (l : List Sid). length l) began ∙ length-append (began_in later) (row.sid ∷ []) in
             let less = rest.as_many in omega (arith, many, less);
@@ -552,7 +566,7 @@ module _ (opening : Tables) (terms : ℕ → Terms) (before : ℕ → List Step)
     sids : List Sid
     as_many : length sids ≡ sum_by (λ (list : List Plan). length list) plans
     differ : IsDistinct (λ (one other : Sid). one.number == other.number) sids
-    named : AllByRecursion (IsNamedIn (histories_in shards)) sids
+    named : AllByRecursion (IsNamedIn (since_in before shards)) sids
     begun : AllByRecursion (IsBegunFrom least) sids
 
   workers_are_named : AreInOrder seen.events → AreUnspent (histories_in shards) → (least : ℕ) (plans : List (List Plan)) (olds news : List DeskView) (rows : List (List RowView))
@@ -580,7 +594,7 @@ module _ (opening : Tables) (terms : ℕ → Terms) (before : ℕ → List Step)
             let others = rest.as_many in
             omega (arith, both, all, first, others);
         differ = both_distinct order least (began_in one.calls) rest.sids apart rest.differ (began_by least one.calls (subst (λ l. AreCallsSeen terms before (length shards) least l seen) same each)) rest.begun;
-        named = every-append (IsNamedIn (histories_in shards)) (began_in one.calls) rest.sids here.named rest.named;
+        named = every-append (IsNamedIn (since_in before shards)) (began_in one.calls) rest.sids here.named rest.named;
         begun = every-append (IsBegunFrom least) (began_in one.calls) rest.sids mine (from_less least rest.sids rest.begun);
       }
   workers_are_named order unspent least [] (old ∷ olds) news rows asks work new recorded = absurd work
@@ -590,10 +604,11 @@ module _ (opening : Tables) (terms : ℕ → Terms) (before : ℕ → List Step)
   workers_are_named order unspent least (list ∷ plans) (old ∷ olds) [] rows asks work new recorded = absurd work
   workers_are_named order unspent least (list ∷ plans) (old ∷ olds) (now ∷ news) [] asks work new recorded = absurd work
 
-  -- so all plans have had sessions that the histories tell of
+  -- so all plans have had sessions that the steps since tell of
   pub have_run : AreInOrder seen.events → (plans : List (List Plan)) (transcripts : List (List RowView)) (passes : List PassView)
       → AllByRecursion (AllByRecursion AsksFirst) plans → All (λ (pass : PassView). IsBeginning pass.seen seen) passes
-      → HaveWorked terms before (length shards) plans transcripts passes → HaveRun plans (histories_in shards) transcripts
+      → HaveWorked terms before (length shards) plans transcripts passes
+      → HaveRunSince plans (histories_in shards) (since_in before shards) transcripts
   have_run order plans transcripts passes asks begins h = record {
     before = h.olds;
     after = h.news;

@@ -15,6 +15,8 @@ use Rattle.door_workers.specs.Ends.{AreHandedBack, AreServed}
 use Rattle.run_words.specs.Words.{AreWords, most_served}
 use Rattle.run_words.specs.Reading.{AreReadAs, IsRead}
 use Rattle.top_run.specs.Works.{WorkEnded}
+use Rattle.top_run.specs.Warms.{WarmEnded}
+use Rattle.top_run.specs.declared.runs.Phase.{Phase}
 
 -- The source is as before.
 pub record IsUnread (before after : Tells) : Type 0 where
@@ -41,9 +43,10 @@ pub record IsTextPrinted (text : List ℕ) (ended : Status) (before after : Tell
 pub record IsRefused (course : Course) : Type 0 where
   pub same : course.after ≡ course.before
   pub nothing : IsNotStarted course.before course.after course.left course.written
+  pub none_earlier : course.earlier ≡ []
   pub unserved : IsUnserved course
 
--- What is so at an end, by what the words were read as: a script is replayed from the source; a load and a server
+-- What is so at an end, by what the words were read as: a script is replayed from the source; loads and a server
 -- read nothing; a text that was asked for is written; and words that can't be read do nothing. The course of the run
 -- is told by its place: that which a command names, or any where none is named.
 abbrev pub EndedAs : Result Words WordsFault → Status → (Place → Course) → Type 0
@@ -55,6 +58,9 @@ EndedAs (Ok (words.Work place spec)) ended courses =
     IsUnread course.before course.after
     × WorkEnded ended spec course.held course.before course.after course.left course.written
     × IsUnserved course
+EndedAs (Ok (words.Warm place spec)) ended courses =
+    let course = courses place in
+    IsUnread course.before course.after × WarmEnded ended spec course × IsUnserved course
 EndedAs (Ok (words.Serve place spec)) ended courses =
     let course = courses place in IsUnread course.before course.after × ServeEnded ended spec course
 EndedAs (Ok (words.Page text)) ended courses =
@@ -98,3 +104,16 @@ pub record AreLines (words : List (List ℕ)) (ends : List LineEnd) (before afte
   pub read : Result Words WordsFault
   pub is_reading : IsReading words read
   pub ended : LinesEnded read ends before after
+
+-- What loads left that ended before: of other commands than the run of two loads there is none.
+abbrev pub LeavesEarlier : Result Words WordsFault → List Phase → Type 0
+LeavesEarlier (Ok (words.Warm place spec)) earlier = Unit {0}
+LeavesEarlier other earlier = earlier ≡ []
+
+-- So it is, by the words of the command: words that are those of a command, word for word, leave what this command does. Others leave
+-- what is left of what they are read as.
+pub record AreEarlier (words : List (List ℕ)) (earlier : List Phase) : Type 0 where
+  pub worded : (command : Words) → AreWords words command → LeavesEarlier (Ok command) earlier
+  pub read : Result Words WordsFault
+  pub is_reading : IsReading words read
+  pub left : LeavesEarlier read earlier

@@ -2,7 +2,9 @@ pub use Rattle.rows_model.specs.Key
 pub mod Runs
 pub mod Plays
 pub mod Works
+pub mod Warms
 pub mod Serves
 pub mod Ready
+pub mod Warming
 pub mod Commands
 pub mod Exits

@@ -1,10 +1,11 @@
 -- What a server prints and keeps, and how its lines ended.
-use Rattle.std.specs.Prelude.{ℕ, ◌≡◌, ◌≢◌, ◌-◌, ◌^◌, ◌≤◌, ◌⊎◌, min, List, [], ◌∷◌, ◌++◌, Option, Some, IfSome, codes, decimal}
+use Rattle.std.specs.Prelude.{ℕ, ◌≡◌, ◌≢◌, ◌-◌, ◌^◌, ◌≤◌, ◌⊎◌, min, List, [], ◌∷◌, ◌++◌, map, Option, Some, IfSome, codes, decimal}
 use Rattle.iq_outside.specs.declared.sinks.Sink.{Ghosts as Sinks}
 use Rattle.iq_outside.specs.Outside.{Rose}
 use Rattle.rows_model.specs.Rows.{Tables}
 use Rattle.session_client.specs.declared.plans.Shape.{Shape}
 use Rattle.core_history.specs.Lines.{line}
+use Rattle.top_run.specs.declared.runs.Phase.{Phase}
 use Rattle.top_run.specs.declared.runs.RunEnd.{RunEnd}
 use Rattle.top_run.specs.declared.runs.Status.{Status}
 use Rattle.top_run.specs.declared.runs.Status.TheVariants as status
@@ -78,8 +79,8 @@ pub record HasServed {W : Type 0} (sinks : Sinks W) (spec : ServeSpec) (served :
   pub writes : CountsWhere sinks.faults (is_write_fault served.status) old new
   pub doors : CountsWhere (λ (door : DoorSeen). door.faults) (is_door_fault served.status) before after
 
--- How a run went: where it was made, what was known before and after it, of its door too, what it leaves, how many bytes were
--- written, and how each line ended.
+-- How a run went: where it was made, what was known before and after it, of its door too, what it leaves, what loads that ended
+-- before left, how many bytes were written, and how each line ended.
 pub record Course : Type 0 where
   pub held : Held
   pub before : Tells
@@ -87,8 +88,17 @@ pub record Course : Type 0 where
   pub door_before : DoorSeen
   pub door_after : DoorSeen
   pub left : Left
+  pub earlier : List Left
   pub ends : List LineEnd
   pub written : ℕ
+
+-- What a load left that ended before another began.
+abbrev pub phase_left : Phase → Left
+phase_left phase = record {
+  opening = Some phase.opening;
+  log = phase.log.items;
+  histories = map (λ history. history.items) phase.histories.items;
+}
 
 -- The course of a run that ended so, of which these are known.
 abbrev pub course_of : {K : Type 0} → Held → Tells → Tells → DoorSeen → DoorSeen → RunEnd K → Course
@@ -99,6 +109,7 @@ course_of held before after door_before door_after end = record {
   door_before = door_before;
   door_after = door_after;
   left = left_at end;
+  earlier = map phase_left end.earlier.items;
   ends = end.ends.items;
   written = end.written;
 }

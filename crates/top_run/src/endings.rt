@@ -21,6 +21,7 @@ pub(crate) fn not_started<K: Keeper>(alloc: Global, status: Status, keeper: K) -
     ensures log { result.log.items ≡ [] }
     ensures histories { result.histories.items ≡ [] }
     ensures ends { result.ends.items ≡ [] }
+    ensures earlier { result.earlier.items ≡ [] }
     ensures written { result.written ≡ 0 }
 {
     RunEnd {
@@ -30,6 +31,7 @@ pub(crate) fn not_started<K: Keeper>(alloc: Global, status: Status, keeper: K) -
         log: Vec::new(alloc),
         histories: Vec::new(alloc),
         ends: Vec::new(alloc),
+        earlier: Vec::new(alloc),
         written: 0,
     }
 }
@@ -53,6 +55,7 @@ pub(crate) fn ended_run<K: Keeper>(
     ensures log { result.log.items ≡ core.store.ledger.log }
     ensures histories { histories_at result ≡ histories_in core }
     ensures ends { result.ends.items ≡ [] }
+    ensures earlier { result.earlier.items ≡ [] }
     ensures written { result.written ≡ tally.written }
     ensures sound { (origin : Origin) (moves : List Move) →
         HasKept core origin moves → IsSound core origin moves }
@@ -66,6 +69,7 @@ pub(crate) fn ended_run<K: Keeper>(
         log,
         histories: histories_of(shards, histories),
         ends: Vec::new(alloc),
+        earlier: Vec::new(alloc),
         written: tally.written,
     }
 }

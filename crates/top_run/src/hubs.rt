@@ -10,7 +10,7 @@ ghost use Rattle.top_run.specs.Runs.{histories_at, kept_in};
 ghost use Rattle.top_run.specs.Works.{hub_terms};
 
 use crate::endings::histories_of;
-use crate::runs::{RunEnd, Status};
+use crate::runs::{Phase, RunEnd, Status};
 use bound_desk::BoundDesk;
 use bound_hub::{BoundHub, BoundName};
 use conn_server::LineEnd;
@@ -120,6 +120,7 @@ pub(crate) fn ended_hub<K: Keeper, N: Start>(
     shards: Vec<Shard>,
     histories: Vec<Vec<Step>>,
     ends: Vec<LineEnd>,
+    earlier: Vec<Phase>,
     written: u64,
 ) -> RunEnd<K>
     requires none { histories.items ≡ [] }
@@ -134,6 +135,7 @@ pub(crate) fn ended_hub<K: Keeper, N: Start>(
     ensures histories { histories_at result ≡ kept_in shards.items }
     ensures whole { AreWhole shards.items → histories_at result ≡ histories_in shards.items }
     ensures ends { result.ends ≡ ends }
+    ensures earlier { result.earlier ≡ earlier }
     ensures written { result.written ≡ written }
     ensures told { ForSome store.known_rows (λ known. known ≡ rows_of store.ledger) }
     ensures since { FailedSince N.count store.ledger.failed store.faults }
@@ -148,6 +150,7 @@ pub(crate) fn ended_hub<K: Keeper, N: Start>(
         log,
         histories: histories_of(shards, histories),
         ends,
+        earlier,
         written,
     }
 }

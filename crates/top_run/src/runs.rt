@@ -8,7 +8,7 @@ ghost use Rattle.run_words.specs.declared.words.Words.{Words};
 ghost use Rattle.run_words.specs.Words.{AreWords};
 ghost use Rattle.top_run.specs.declared.runs.Status.{Status};
 ghost use Rattle.top_run.specs.Runs.{Ended, Held, Input, told_by, moment, seen, held_at, left_at, IsRead, IsOpened, RoseWhere, CountsWhere, is_read_fault, is_write_fault, is_door_fault};
-ghost use Rattle.top_run.specs.Commands.{AreLines, AreNoCommand, CommandEnded};
+ghost use Rattle.top_run.specs.Commands.{AreEarlier, AreLines, AreNoCommand, CommandEnded};
 ghost use Rattle.top_run.specs.Serves.{course_of};
 ghost use Rattle.door_workers.specs.Attending.{seen_at};
 ghost use Rattle.top_run.specs.Plays.{IsNew, IsFinished, IsStopped, IsUnread, at_write};
@@ -18,6 +18,7 @@ use crate::plays::{Stop, Tally, play_acts};
 use crate::printing::{last_line, print};
 use crate::serves::serve;
 use crate::texts::tell;
+use crate::warms::warm;
 use crate::works::work;
 use conn_server::LineEnd;
 use core_history::Core;
@@ -60,7 +61,18 @@ pub enum Status {
     Memory,
 }
 
-/// How a run ended, and what it leaves.
+/// What a load left that ended before another began: the rows that it began with, the transactions that were
+/// committed, the earliest first, and each shard's history.
+#[derive(Drop)]
+pub struct Phase {
+    pub opening: Rows,
+    pub log: Vec<Commit>,
+    pub histories: Vec<Vec<Step>>,
+}
+
+/// How a run ended, and what it leaves. Of a run with two loads `opening`, `log` and `histories` are what the
+/// second leaves, and `earlier` what the first left; where the second never began the three are as where
+/// nothing was run.
 #[derive(Drop)]
 pub struct RunEnd<K> {
     pub status: Status,
@@ -76,6 +88,9 @@ pub struct RunEnd<K> {
     /// How each line that was served ended, in the order in which they were handed back. A server that serves
     /// any number of them keeps none.
     pub ends: Vec<LineEnd>,
+    /// What a load left that ended before: of the first one of `warm`, if it began. Of other commands there is
+    /// none.
+    pub earlier: Vec<Phase>,
     /// How many bytes the sink took. It stands still at its type's end.
     pub written: u64,
 }
@@ -98,6 +113,7 @@ pub fn replay<S: Source, W: Sink, K: Keeper>(
 ) -> RunEnd<K>
     ensures is_command { result.status ≢ Status.Usage }
     ensures no_ends { result.ends.items ≡ [] }
+    ensures none_earlier { result.earlier.items ≡ [] }
     ensures ended { let held = held_at place.now (K.holds keeper place.now) in
         let before = seen (told_by S.Source source.old) W.Sink K.Keeper sink.old keeper in
         let after = seen (told_by S.Source source.new) W.Sink K.Keeper sink.new result.keeper in
@@ -131,6 +147,14 @@ pub fn replay<S: Source, W: Sink, K: Keeper>(
 /// as before, and it is `Spent` where a shard has no token left; else it tells what the audit found. At a
 /// write that fails, or where memory runs out, no summary stands whole; what a load that began has kept is
 /// never thrown away. The call may wait.
+///
+/// The words `warm` and these five numbers run that load, write its summary, and then a line for each shard:
+/// `dump`, the shard's number, how many of its entries are still right, and how many bytes they have as text.
+/// These entries are loaded into the shards of a new cache, beside the same store with an empty log. There the
+/// load of the next seed is run, and its summary is written. `earlier` has what the first load left. A failed
+/// call of the keeper is told behind the second summary, and so is a shard without a token left: of the first
+/// load's shards, and then of the second's. Where the run stops before the second load, `opening`, `log` and
+/// `histories` have nothing.
 ///
 /// The words `serve <addr> <conns> <workers> <shards> <members>` serve the lines that the door gives at this
 /// address: the workers accept and serve them in turn, until so many were accepted or no more come. Where
@@ -171,7 +195,9 @@ pub fn run<
         course_of (held_at place (K.holds keeper place)) before after
         (tells door.old) (tells door.new) result) }
     ensures started { IsSome result.opening → K.is_started result.keeper }
-    ensures unstarted { result.opening ≡ None → K.is_started result.keeper → K.is_started keeper }
+    ensures unstarted { result.opening ≡ None → result.earlier.items ≡ [] →
+        K.is_started result.keeper → K.is_started keeper }
+    ensures earlier { AreEarlier (map (λ word. word.items) words.now) result.earlier.items }
     ensures reads { RoseWhere S.faults (is_read_fault result.status) source.old source.new }
     ensures writes { RoseWhere W.faults (is_write_fault result.status) sink.old sink.new }
     ensures doors { RoseWhere D.faults (is_door_fault result.status) door.old door.new }
@@ -191,6 +217,9 @@ pub fn run<
         Ok(Words::Replay { place }) => replay(alloc, &place, source, sink, keeper),
         Ok(Words::Work { place, spec }) => {
             work(rt, alloc, &place, &spec, sink, keeper, clock, gate)
+        }
+        Ok(Words::Warm { place, spec }) => {
+            warm(rt, alloc, &place, &spec, sink, keeper, clock, gate)
         }
         Ok(Words::Serve { place, spec }) => {
             serve(rt, alloc, &place, &spec, sink, keeper, door, clock, gate)
@@ -243,6 +272,7 @@ fn start_script<W: Sink, K: Keeper>(
         (left_at result) result.written }
     ensures other { result.status ≢ Status.Usage }
     ensures no_ends { result.ends.items ≡ [] }
+    ensures none_earlier { result.earlier.items ≡ [] }
     ensures no_read_fault { IsFalse (is_read_fault result.status) }
     ensures started { IsSome result.opening → K.is_started result.keeper }
     ensures unstarted { result.opening ≡ None → K.is_started result.keeper → K.is_started keeper }
@@ -278,6 +308,7 @@ fn play_core<W: Sink, K: Keeper>(
         Ended result.status held before after (left_at result) result.written }
     ensures other { result.status ≢ Status.Usage }
     ensures no_ends { result.ends.items ≡ [] }
+    ensures none_earlier { result.earlier.items ≡ [] }
     ensures no_read_fault { IsFalse (is_read_fault result.status) }
     ensures started { K.is_started result.keeper }
     ensures began { IsSome result.opening }

@@ -96,6 +96,7 @@ pub(crate) fn serve<
     ensures lines { D.fresh door.old → AreServed (most_served spec.now.conns)
         result.ends.items (D.closed door.old) (D.closed door.new) }
     ensures command { result.status ≢ Status.Usage }
+    ensures none_earlier { result.earlier.items ≡ [] }
     ensures no_read_fault { IsFalse (is_read_fault result.status) }
     ensures keeper_never_falls { K.faults keeper ≤ K.faults result.keeper }
 {
@@ -184,6 +185,7 @@ fn serve_store<
     ensures lines { D.fresh door.old → AreServed (most_served server.now.spec.now.conns)
         result.ends.items (D.closed door.old) (D.closed door.new) }
     ensures command { result.status ≢ Status.Usage }
+    ensures none_earlier { result.earlier.items ≡ [] }
     ensures no_read_fault { IsFalse (is_read_fault result.status) }
     ensures keeper_never_falls { store.faults ≤ K.faults result.keeper }
 {
@@ -206,7 +208,15 @@ fn serve_store<
         ends,
         written,
     } = served;
-    ended_hub(status, store, shards, histories, ends, written)
+    ended_hub(
+        status,
+        store,
+        shards,
+        histories,
+        ends,
+        Vec::new(server.alloc),
+        written,
+    )
 }
 
 /// How the serving ended: with which status, how each line ended, where a number of them was served, and

@@ -113,7 +113,7 @@ fn push_uncovered(alloc: Global, text: &mut Vec<u8>, commit: u64, key: QKey) -> 
 }
 
 /// Some words, and a number in decimal behind them.
-fn push_field(text: &mut Vec<u8>, words: &[u8], number: u128) -> Result<(), Memory>
+pub(crate) fn push_field(text: &mut Vec<u8>, words: &[u8], number: u128) -> Result<(), Memory>
     ensures { OnOk result (text.new.items ≡ text.old.items ++ (words.now ++ decimal number)) }
 {
     let mut buffer = Buffer::new();

@@ -26,6 +26,7 @@ pub(crate) fn tell<W: Sink, K: Keeper>(
     ensures keeper { result.keeper ≡ keeper }
     ensures opening { result.opening ≡ None }
     ensures no_ends { result.ends.items ≡ [] }
+    ensures none_earlier { result.earlier.items ≡ [] }
     ensures writes { CountsWhere W.faults (is_write_fault result.status) sink.old sink.new }
     ensures no_read_fault { IsFalse (is_read_fault result.status) }
     ensures no_door_fault { IsFalse (is_door_fault result.status) }

@@ -21,6 +21,7 @@ ghost use Rattle.run_inputs.specs.Loads.{IsWork, load};
 ghost use Rattle.top_run.specs.Runs.{Held, Input, moment, seen, held_at, histories_at, left_at, IsOpened, RoseWhere, CountsWhere, is_read_fault, is_write_fault};
 ghost use Rattle.top_run.specs.Works.{work_shape, hub_terms, has_spent, first_spent, work_status, end_status, at_write_failed, IsNameOf, HaveRun, IsSummary, IsSummarized, IsHalted, WorkEnded};
 ghost use Rattle.top_run.specs.Ready.{AsksFirst, HaveWorked, IsReady, MakeHub, NamesParts};
+ghost use Rattle.top_run.specs.Warming.{AreRight, GoesOn, HaveRunSince, KeepsAnswers, LoadsOnly, since_in};
 
 use crate::endings::{not_started, start_status};
 use crate::hubs::{CAP, HubParts, LIFE, Parts, desks_over, ended_hub, heard, parts_for};
@@ -71,6 +72,7 @@ pub(crate) fn work<W: Sink, K: Keeper + Send, C: Clock, G: Gate, R: Threads + Wa
     ensures writes { CountsWhere W.faults (is_write_fault result.status) sink.old sink.new }
     ensures command { result.status ≢ Status.Usage }
     ensures no_ends { result.ends.items ≡ [] }
+    ensures none_earlier { result.earlier.items ≡ [] }
     ensures no_read_fault { IsFalse (is_read_fault result.status) }
     ensures keeper_never_falls { K.faults keeper ≤ K.faults result.keeper }
 {
@@ -87,12 +89,13 @@ pub(crate) fn work<W: Sink, K: Keeper + Send, C: Clock, G: Gate, R: Threads + Wa
 
 /// What a load is run with: the plans of each worker, and the parts of the hub.
 #[derive(Drop)]
-struct Ready {
-    plans: Vec<Vec<Plan>>,
-    parts: Parts,
+pub(crate) struct Ready {
+    pub(crate) plans: Vec<Vec<Plan>>,
+    pub(crate) parts: Parts,
 }
 
-fn ready_for(alloc: Global, spec: &WorkSpec) -> Result<Ready, Memory>
+/// What a load of these numbers is run with. Its hub has no step yet.
+pub(crate) fn ready_for(alloc: Global, spec: &WorkSpec) -> Result<Ready, Memory>
     requires { IsWork spec.now }
     ensures { IfOk result (IsReady spec.now (hub_terms (work_shape spec.now) None)) }
 {
@@ -148,6 +151,7 @@ fn work_on<
     ensures writes { CountsWhere W.faults (is_write_fault result.status) sink.old sink.new }
     ensures command { result.status ≢ Status.Usage }
     ensures no_ends { result.ends.items ≡ [] }
+    ensures none_earlier { result.earlier.items ≡ [] }
     ensures no_read_fault { IsFalse (is_read_fault result.status) }
     ensures keeper_never_falls { store.faults ≤ K.faults result.keeper }
 {
@@ -181,14 +185,15 @@ fn work_on<
 
 /// A store and its shards after the threads have ended, and the transcripts where memory sufficed.
 #[derive(Drop)]
-struct Ran<K: Keeper, H: BoundName> {
-    store: Store<K, StartOf<H>>,
-    shards: Vec<Shard>,
-    transcripts: Result<Vec<Transcript>, Memory>,
+pub(crate) struct Ran<K: Keeper, H: BoundName> {
+    pub(crate) store: Store<K, StartOf<H>>,
+    pub(crate) shards: Vec<Shard>,
+    pub(crate) transcripts: Result<Vec<Transcript>, Memory>,
 }
 
-/// Runs the plans over a hub of the store and the shards, and takes the hub apart.
-fn run_plans<
+/// Runs the plans over a hub of the store and the shards, and takes the hub apart. The shards may have made
+/// steps before, by which they were loaded.
+pub(crate) fn run_plans<
     H: BoundName + Send + Sync,
     K: Keeper + Send,
     C: Clock,
@@ -207,14 +212,16 @@ fn run_plans<
     requires new { IsNewStore H.begun H.failed store }
     requires parts { MakeHub H.terms H.opening H.before (is_none store.known_rows)
         H.name H.parts H.word parts }
-    requires none_before { (place : ℕ) → H.before place ≡ [] }
+    requires loads_before { (place : ℕ) → AllByRecursion LoadsOnly (H.before place) }
+    requires legal { AreLegal parts.shards.items }
     requires from_one { (place : ℕ) → (H.terms place).first ≡ 1 }
     requires plans { All (λ list. All IsPlan list.items) plans.now }
     requires ask { AllByRecursion (AllByRecursion AsksFirst) (map (λ list. list.items) plans.now) }
     requires few_workers { length plans.now ≤ 1024 }
     ensures ran { IfOk result.transcripts (λ transcripts.
-        HaveRun (map (λ list. list.items) plans.now) (histories_in result.shards.items)
-        transcripts.items) }
+        HaveRunSince (map (λ list. list.items) plans.now) (histories_in result.shards.items)
+        (since_in H.before result.shards.items) transcripts.items) }
+    ensures goes_on { All (GoesOn H.before) result.shards.items }
     ensures store { IsNamedStore H.opening H.cap H.known_rows H.start result.store }
     ensures as_many { length result.shards.items ≡ length parts.shards.items }
     ensures all { AreAll H.terms result.shards.items }
@@ -222,6 +229,10 @@ fn run_plans<
     ensures fresh { IsSome result.store.known_rows →
         Fresh H.opening result.store.ledger.log (histories_in result.shards.items) }
     ensures covered { Covered result.store.ledger.log (histories_in result.shards.items) }
+    ensures right { IsSome result.store.known_rows →
+        AreRight H.opening result.store.ledger.log result.shards.items }
+    ensures keeps { IsSome result.store.known_rows →
+        KeepsAnswers H.opening result.store.ledger.log }
 {
     let HubParts {
         shards,
@@ -285,13 +296,13 @@ fn run_over<
 
 /// A summary, and what its audit found.
 #[derive(Drop)]
-struct Made {
-    finding: Finding,
-    text: Vec<u8>,
+pub(crate) struct Made {
+    pub(crate) finding: Finding,
+    pub(crate) text: Vec<u8>,
 }
 
 /// Audits what was kept, and makes the summary. Without transcripts there is none.
-fn summed_up(
+pub(crate) fn summed_up(
     alloc: Global,
     spec: &WorkSpec,
     opening: &Rows,
@@ -318,7 +329,7 @@ fn summed_up(
 
 /// Writes the summary, if there is one. It tells what the audit found.
 #[tactic(auto, using(crate::proofs::PrintLemmas::print_none))]
-fn tell<W: Sink>(
+pub(crate) fn tell<W: Sink>(
     sink: &mut W,
     written: &mut u64,
     made: Result<Made, Memory>,
@@ -370,17 +381,26 @@ fn ended_work<K: Keeper, N: Start>(
     ensures histories { histories_at result ≡ histories_in shards.items }
     ensures written { result.written ≡ written }
     ensures no_ends { result.ends.items ≡ [] }
+    ensures none_earlier { result.earlier.items ≡ [] }
     ensures told { ForSome store.known_rows (λ known. known ≡ rows_of store.ledger) }
     ensures since { FailedSince N.count store.ledger.failed store.faults }
 {
     let failed = store.failed() > 0;
     let status = end_status(failed, first_spent(shards.as_slice()), printed);
-    ended_hub(status, store, shards, histories, Vec::new(alloc), written)
+    ended_hub(
+        status,
+        store,
+        shards,
+        histories,
+        Vec::new(alloc),
+        Vec::new(alloc),
+        written,
+    )
 }
 
 /// The status of a load's run that began: whether a call of its keeper failed, the least shard without
 /// a token left, and what stopped it, if something did.
-fn end_status(failed: bool, spent: Option<u32>, printed: Result<Finding, Stop>) -> Status
+pub(crate) fn end_status(failed: bool, spent: Option<u32>, printed: Result<Finding, Stop>) -> Status
     ensures { result ≡ end_status failed spent printed }
 {
     match printed {
@@ -404,7 +424,7 @@ fn work_status(failed: bool, spent: Option<u32>) -> Status
 }
 
 /// The least shard that has drawn each token that it can, if there is one.
-fn first_spent(shards: &[Shard]) -> Option<u32>
+pub(crate) fn first_spent(shards: &[Shard]) -> Option<u32>
     requires few { length shards.now ≤ 64 }
     requires whole { AreWhole shards.now }
     ensures { result ≡ first_spent (histories_in shards.now) }

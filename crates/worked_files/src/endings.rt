@@ -23,9 +23,10 @@ pub fn told_of(
         Err(_) => usize::MAX,
     };
     let mut text = format!(in alloc;
-        "ends {ends}\nstarted {started}\ncommits {}\nhistories {}\nserved {}\nclosed {closed}\nwritten {}\nunread {unread}\n",
+        "ends {ends}\nstarted {started}\ncommits {}\nhistories {}\nearlier {}\nserved {}\nclosed {closed}\nwritten {}\nunread {unread}\n",
         end.log.len(),
         end.histories.len(),
+        end.earlier.len(),
         end.ends.len(),
         end.written,
     )?;

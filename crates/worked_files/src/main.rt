@@ -21,8 +21,8 @@
 //! - `ends done`, or with what the program writes to standard error in place of `done`.
 //! - `written 60`: only so many bytes are printed, the first of `NAME.out`. All are without it.
 //! - `started yes`, `started no`: whether the store began.
-//! - `commits 2`, `histories 1`, `served 3`, `closed 3`: how many commits, histories, ends of connections and closed
-//!   connections are kept.
+//! - `commits 2`, `histories 1`, `earlier 1`, `served 3`, `closed 3`: how many commits, histories, earlier loads, ends
+//!   of connections and closed connections are kept.
 //! - `unread 14`: how many bytes of standard input were left there.
 //! - `client told STORED;`, `client ended quit`: what a connection was told, and how it ended.
 #![tactic(auto)]

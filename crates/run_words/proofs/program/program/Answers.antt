@@ -39,7 +39,12 @@ returns c =
     ∙ ap₂ with_rule (ap app_of_fields c.about-3.ensures ∙ c.new-3.ensures.app) c.db_path-3.ensures.rule in
     let serve_is : app_of c.in_ok-serve.serve ≡ with_rule (with_db (codes "serve")) values_rule =
     c.in_ok-serve.ensures.shape c.five_values-2.ensures.local ∙ ap₂ with_rule serve_db c.five_values-2.ensures.rule in
-    let about_is : app_of c.about-4.result ≡ new_app (codes "iq") = ap app_of_fields c.about-4.ensures ∙ c.new-4.ensures.app in
+    let warm_db : app_of c.in_ok-arg-3.field-0 ≡ with_db (codes "warm") =
+    c.in_ok-arg-3.ensures.shape c.db_path-4.ensures.local
+    ∙ ap₂ with_rule (ap app_of_fields c.about-4.ensures ∙ c.new-4.ensures.app) c.db_path-4.ensures.rule in
+    let warm_is : app_of c.in_ok-warm.warm ≡ with_rule (with_db (codes "warm")) values_rule =
+    c.in_ok-warm.ensures.shape c.five_values-3.ensures.local ∙ ap₂ with_rule warm_db c.five_values-3.ensures.rule in
+    let about_is : app_of c.about-5.result ≡ new_app (codes "iq") = ap app_of_fields c.about-5.ensures ∙ c.new-5.ensures.app in
     let version_is : app_of c.version.result ≡ on_top versioned (new_app (codes "iq")) = ap app_of_fields c.version.ensures ∙ ap (on_top versioned) about_is in
     let unnamed_is : app_of c.no_binary_name.result ≡ on_top unnamed (on_top versioned (new_app (codes "iq"))) =
     ap app_of_fields c.no_binary_name.ensures ∙ ap (on_top unnamed) version_is in
@@ -57,8 +62,15 @@ returns c =
     ∙ ap₂ (λ (a b : Bool). a || b) (ap globals c.about-3.ensures ∙ c.new-3.ensures.local) c.db_path-3.ensures.local in
     let serve_local : (out-Command c.in_ok-serve.serve).has_globals ≡ false =
     c.in_ok-serve.ensures.globals ∙ ap₂ (λ (a b : Bool). a || b) serve_db_local c.five_values-2.ensures.local in
+    let warm_db_local : (out-Command c.in_ok-arg-3.field-0).has_globals ≡ false =
+    c.in_ok-arg-3.ensures.globals
+    ∙ ap₂ (λ (a b : Bool). a || b) (ap globals c.about-4.ensures ∙ c.new-4.ensures.local) c.db_path-4.ensures.local in
+    let warm_local : (out-Command c.in_ok-warm.warm).has_globals ≡ false =
+    c.in_ok-warm.ensures.globals ∙ ap₂ (λ (a b : Bool). a || b) warm_db_local c.five_values-3.ensures.local in
     let one : app_of c.in_ok-subcommand.field-0 ≡ with_subcommand alone (with_db (codes "replay")).top =
     c.in_ok-subcommand.ensures.shape replay_local ∙ ap₂ with_subcommand alone_is (ap top replay_is) in
     let two : app_of c.in_ok-subcommand-2.field-0 ≡ with_subcommand (with_subcommand alone (with_db (codes "replay")).top) (with_values (codes "work")) =
     c.in_ok-subcommand-2.ensures.shape work_local ∙ ap₂ with_subcommand one (ap top work_is) in
-    IfOk-weaker c.subcommand-3.result _ _ (λ m h. h.shape serve_local ∙ ap₂ with_subcommand two (ap top serve_is)) c.subcommand-3.ensures
+    let three : app_of c.in_ok-subcommand-3.field-0 ≡ with_subcommand (with_subcommand (with_subcommand alone (with_db (codes "replay")).top) (with_values (codes "work"))) (with_values (codes "serve")) =
+    c.in_ok-subcommand-3.ensures.shape serve_local ∙ ap₂ with_subcommand two (ap top serve_is) in
+    IfOk-weaker c.subcommand-4.result _ _ (λ m h. h.shape warm_local ∙ ap₂ with_subcommand three (ap top warm_is)) c.subcommand-4.ensures

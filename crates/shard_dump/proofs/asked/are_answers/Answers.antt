@@ -1,4 +1,4 @@
-use Rattle.std.proofs.Common.{rules, ◌≡◌, ◌<◌, IsSome, List, ℕ, length, take, get_or, arith, sym, ap, subst, All}
+use Rattle.std.proofs.Common.{rules, ◌≡◌, ◌<◌, List, length, take, arith, sym, subst}
 use Rattle.std.proofs.lemmas.List.{take_all}
 use Rattle.rows_model.specs.Rows.{Tables}
 use Rattle.shard_dump.specs.declared.rows.DumpRow.{DumpRow}

@@ -1,4 +1,4 @@
-use Rattle.std.proofs.Common.{◌≡◌, ◌≤◌, ap, sym, ◌∙◌, ◌++◌, length, arith, List, ℕ}
+use Rattle.std.proofs.Common.{◌≡◌, ◌≤◌, ap, ◌∙◌, ◌++◌, length, arith, List}
 use Rattle.shard_dump.specs.declared.rows.DumpRow.{DumpRow}
 use Rattle.shard_dump.specs.Dumps.{rows_of}
 use Rattle.key_shard.specs.Shards.{past_of}

@@ -1,6 +1,5 @@
-use Rattle.std.proofs.Common.{ℕ, ◌≡◌, ◌<◌, ◌^◌, ◌++◌, All, length, reverse}
+use Rattle.std.proofs.Common.{◌≡◌, ◌<◌, ◌^◌, ◌++◌, All, length, reverse}
 use Rattle.std.specs.List.{filter_map}
-use Rattle.shard_dump.specs.declared.rows.DumpRow.{DumpRow}
 use Rattle.shard_dump.proofs.DumpLemmas.{row_by}
 use Rattle.shard_dump.proofs.dumps.rows_to_dump.Given as goal
 

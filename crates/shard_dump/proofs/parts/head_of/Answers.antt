@@ -1,5 +1,4 @@
-use Rattle.std.proofs.Common.{◌≡◌, ap, sym, ◌∙◌, ◌++◌, ◌∷◌, decimal, List, ℕ, subst, arith}
-use Rattle.shard_dump.specs.declared.heads.Head.{Head}
+use Rattle.std.proofs.Common.{◌≡◌, ap, sym, ◌∙◌, ◌++◌, ◌∷◌, decimal, ℕ, subst, arith}
 use Rattle.shard_dump.specs.Texts.{IsHead, HasNoHead}
 use Rattle.shard_dump.proofs.TextLemmas.{if_none}
 use Rattle.shard_dump.proofs.ReadLemmas.{shard_behind, count_behind, rows_behind, head_joined, same_head}

@@ -1,4 +1,4 @@
-use Rattle.std.proofs.Common.{◌≡◌, ◌≢◌, ap, sym, ◌∙◌, ◌++◌, ◌∷◌, List, ℕ, arith, subst}
+use Rattle.std.proofs.Common.{◌≡◌, ◌≢◌, ap, sym, ◌∙◌, ◌++◌, ◌∷◌, ℕ, arith, subst}
 use Rattle.std.specs.Prelude.{All}
 use Rattle.rows_model.specs.declared.keys.QKey.{QKey}
 use Rattle.rows_model.specs.Placement.{shard_of}

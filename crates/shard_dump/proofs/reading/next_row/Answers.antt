@@ -1,5 +1,4 @@
 use Rattle.std.proofs.Common.{◌≡◌, ap, sym, ◌∙◌, true}
-use Rattle.rows_model.specs.declared.keys.QKey.{QKey}
 use Rattle.shard_dump.specs.declared.rows.DumpRow.{DumpRow}
 use Rattle.shard_dump.specs.Listed.{has_row}
 use Rattle.shard_dump.proofs.TextLemmas.{row_once}

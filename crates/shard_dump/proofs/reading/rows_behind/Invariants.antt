@@ -1,4 +1,4 @@
-use Rattle.std.proofs.Common.{ℕ, ◌-◌, length}
+use Rattle.std.proofs.Common.{◌-◌, length}
 use Rattle.shard_dump.specs.Faults.{BeginsWith}
 use Rattle.shard_dump.proofs.reading.rows_behind.Given as goal
 

@@ -1,4 +1,4 @@
-use Rattle.std.proofs.Common.{Option, ◌≡◌, length, refl, sym, ap, subst, ◌∙◌}
+use Rattle.std.proofs.Common.{Option, ◌≡◌, [], length, refl, sym, ap, subst, ◌∙◌}
 use Rattle.std.specs.Prelude.{IsSome}
 use Rattle.rows_model.specs.Rows.{Tables}
 use Rattle.std.proofs.lemmas.List.{length-map}
@@ -52,6 +52,7 @@ returns-clause-ended g c = λ unread rows held opens.
       door_before = tells c.args.door.now;
       door_after = tells c.serve_over_hub-store.new.door;
       left = left_of store (kept_in shards);
+      earlier = [];
       ends = served.ends.items;
       written = served.written;
     } in
@@ -61,6 +62,8 @@ returns-clause-ended g c = λ unread rows held opens.
       c.ended_hub.ensures.log,
       c.ended_hub.ensures.histories,
       c.ended_hub.ensures.ends,
+      c.ended_hub.ensures.earlier,
+      c.new.ensures.items,
       c.ended_hub.ensures.written,
       c.ended_hub.ensures.rows,
       c.ended_hub.ensures.faults,

@@ -14,6 +14,8 @@ use Rattle.top_run.specs.Works.{HaveRun, first_spent, work_shape}
 use Rattle.top_run.specs.Ready.{AsksFirst}
 use Rattle.top_run.proofs.KeepLemmas.{opened_since}
 use Rattle.top_run.proofs.SessionLemmas.{load_asks}
+use Rattle.top_run.proofs.WarmLemmas.{ran_whole, since_none, unused_legal}
+use Rattle.top_run.specs.Warming.{LoadsOnly}
 use Rattle.core_history.specs.Machine.{log_cap}
 use Rattle.bound_hub.proofs.NewLemmas.{opened_is_new}
 use Rattle.top_run.proofs.ReadyLemmas.{make_hub}
@@ -47,8 +49,16 @@ summed_up-made-requires-clause-ran g c =
     rw c.as_slice-2.ensures.value
     (IfOk-weaker c.run_plans-store.result.transcripts _ _
     (λ transcripts ran.
-    subst (λ (plans : List (List Plan)). HaveRun plans (histories_in c.run_plans-store.result.shards.items) transcripts.items) are_load ran)
+    subst (λ (plans : List (List Plan)). HaveRun plans (histories_in c.run_plans-store.result.shards.items) transcripts.items) are_load
+    (ran_whole _ _ _ _ (since_none g.H.BoundName.before c.run_plans-store.result.shards.items c.requires.parts.none_before) ran))
     c.run_plans-store.ensures.ran)
+
+pub run_plans-store-requires-clause-loads_before : goal.run_plans-store-requires-clause-loads_before
+run_plans-store-requires-clause-loads_before g c =
+    λ κs outlives place. subst (AllByRecursion LoadsOnly) (sym (c.requires.parts.none_before place)) tt
+
+pub run_plans-store-requires-clause-legal : goal.run_plans-store-requires-clause-legal
+run_plans-store-requires-clause-legal g c = λ κs outlives. unused_legal c.args.ready.parts.hub.shards.items c.requires.ready.parts.new
 
 pub run_plans-store-requires-clause-ask : goal.run_plans-store-requires-clause-ask
 run_plans-store-requires-clause-ask g c =

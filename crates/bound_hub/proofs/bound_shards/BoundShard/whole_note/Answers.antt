@@ -1,6 +1,5 @@
-use Rattle.std.proofs.Common.{sym, ap, subst, ◌∙◌}
+use Rattle.std.proofs.Common.{ap, subst, ◌∙◌}
 use Rattle.shard_lock.specs.Names.{IsNamed}
-use Rattle.log_word.specs.declared.seen.Seen.{Seen}
 use Rattle.log_word.specs.Lists.{steps_of}
 use Rattle.log_word.specs.Passes.{PassView}
 use Rattle.bound_hub.specs.Spent.{HasSeenAll}

@@ -3,6 +3,7 @@ use Rattle.sql_keeper.specs.Stores.{StoreView}
 use Rattle.shard_lock.specs.Names.{HaveCount}
 use Rattle.bound_hub.specs.Parts.{IsGathered, IsLeft}
 use Rattle.shard_lock.proofs.PlaceLemmas.{are_all}
+use Rattle.bound_hub.proofs.TrueLogLemmas.{true_log_of}
 use Rattle.bound_hub.proofs.hubs.BoundHub.into_parts.Goals as goal
 
 pub returns-clause-all : goal.returns-clause-all
@@ -22,3 +23,9 @@ returns-clause-kept g c =
           (record { begun = c.gather.ensures.begun; sound = c.tied.ensures.sound; log = tied.log; failures = tied.failures; stopped = tied.stopped }),
       subst (λ (s : StoreView). All (IsLeft g.H.HubName.opening g.H.BoundName.before s there.seen) c.unlocked-shards.result.items) (sym same) c.unlocked-shards.ensures.left,
     )
+
+pub returns-clause-true_log : goal.returns-clause-true_log
+returns-clause-true_log g c = λ some.
+    let there = c.gather.new.store in
+    true_log_of g.H.HubName.opening there.seen there.store c.into_store.result _ _ _ c.tied.ensures.tied c.tied.ensures.true_so_far
+    (c.into_store.ensures.same ∙ c.unlocked-shards.ensures.store) some

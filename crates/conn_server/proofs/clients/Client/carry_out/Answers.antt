@@ -1,4 +1,4 @@
-use Rattle.std.proofs.Common.{Option, Some, None, ℤ, w32, ◌≡◌, refl, ap, subst, rules, ◌∙◌}
+use Rattle.std.proofs.Common.{Option, Some, ℤ, w32, ◌≡◌, refl, ap, subst, rules, ◌∙◌}
 use mir.Val.{SFits}
 use Rattle.std.proofs.lemmas.Int.{to_z-of_z}
 use Rattle.std.specs.Option.{option_map}

@@ -2,7 +2,6 @@ use Rattle.std.proofs.Common.{◌≡◌, ◌∙◌, [], refl, sym, ap, subst, So
 use Rattle.std.specs.Prelude.{Ok}
 use Rattle.session_client.specs.Desks.{one_more}
 use Rattle.mc_text.specs.declared.commands.Command.TheVariants.{Quit}
-use Rattle.mc_text.specs.declared.faults.FrameFault.TheVariants as frame
 use Rattle.mc_text.specs.declared.replies.LineReply.TheVariants as LineReply
 use Rattle.conn_server.specs.declared.clients.Client.{Client}
 use Rattle.conn_server.specs.declared.outgoing.Response.TheVariants as outgoing

@@ -1,6 +1,6 @@
-use Rattle.std.proofs.Common.{length, refl, sym, ap, subst, ◌∙◌}
+use Rattle.std.proofs.Common.{length, refl, sym, subst, ◌∙◌}
 use Rattle.desk_book.specs.Apart.{put_back, HavePlaces}
-use Rattle.desk_book.proofs.ApartLemmas.{IsJoined, HasLast, places-left, places-pop, joined-more}
+use Rattle.desk_book.proofs.ApartLemmas.{IsJoined, places-left, places-pop, joined-more}
 use Rattle.desk_book.proofs.apart.Apart.join.Goals as goal
 
 pub loop-place-init : goal.loop-place-init

@@ -1,4 +1,4 @@
-use Rattle.std.proofs.Common.{◌≡◌, ◌∙◌, IfOk, ap, sym, subst}
+use Rattle.std.proofs.Common.{◌≡◌, ◌∙◌, IfOk, ap, subst}
 use Rattle.rows_model.specs.Rows.{Tables}
 use Rattle.rows_model.specs.Query.{answer}
 use Rattle.sqlite.specs.Held.{state}
