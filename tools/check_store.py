@@ -1,5 +1,6 @@
 #!/usr/bin/env python3
-"""Checks from outside what the program makes of a file of rows: tools/check_store.sh calls it.
+"""Checks from outside what the program makes of a file of rows, and of the file of a server's cache
+(tools/warm_server.py): tools/check_store.sh calls it.
 
     python3 tools/check_store.py PROGRAM [KILLS]
 
@@ -12,15 +13,15 @@ import shutil
 import sqlite3
 import subprocess
 import sys
-import tempfile
 from contextlib import closing
 
 import kill_store
 import unfit_files
+import warm_server
 from load_rows import rows_after
 from store_files import (
-    BESIDE, INDEX, Client, Server, Wrong, asks, contents, copy, expect, expect_answers, expect_unchanged,
-    make, query, replay, rows, run,
+    BESIDE, INDEX, NOBODY, Checks, Client, Server, Wrong, asks, contents, copy, expect, expect_answers,
+    expect_unchanged, is_run_by_nobody, make, query, replay, rows, run,
 )
 
 TOP = os.path.dirname(os.path.dirname(os.path.abspath(__file__)))
@@ -29,7 +30,6 @@ KILL_SEED = 33
 NOTHING = "members 3\nend\n"
 NOTHING_TOLD = "end commits 0 hits 0 stores 0 agains 0\n"
 REFUSED = ("", "store fault\n", 6)
-NOBODY = 65534
 
 
 class Folder:
@@ -210,14 +210,6 @@ def no_permission(folder):
     expect(run(folder.program, ["replay", "--db", missing], NOTHING, user=user), REFUSED)
     os.chmod(path, 0o600)
     expect(rows(path), ([(1, "m1"), (2, "bob"), (3, "m3")], []))
-
-
-def is_run_by_nobody(program):
-    """Whether the program can be run as another user, who may be kept from its folder."""
-    try:
-        return os.getuid() != 0 or run(program, [], user=NOBODY)[2] == 1
-    except (OSError, subprocess.SubprocessError):
-        return False
 
 
 def used_by_two(folder):
@@ -432,25 +424,11 @@ def killed(folder, count):
     kill_store.kill_at_start(folder.program, folder.place, count, KILL_SEED)
 
 
-class Checks:
-    """Runs checks, each in a folder of its own, and counts them."""
+class StoreChecks(Checks):
+    """Checks of files of rows."""
 
     def __init__(self, program):
-        self.program = program
-        self.passed = self.failed = 0
-
-    def check(self, name, work, *words):
-        place = tempfile.mkdtemp()
-        try:
-            work(Folder(self.program, place), *words)
-            self.passed += 1
-            print(f"store: {name}: as it must be")
-        except Exception as wrong:  # Whatever a check meets, the others are made.
-            self.failed += 1
-            print(f"store: {name}: NOT as it must be: {str(wrong)[:600] or repr(wrong)}")
-        finally:
-            shutil.rmtree(place)
-        sys.stdout.flush()
+        super().__init__("store", lambda place: Folder(program, place))
 
     def refused(self, name, statements):
         self.check(f"refused and left as it is: {name}", lambda folder: folder.refuses(folder.made(statements)))
@@ -506,7 +484,7 @@ RUNS = [
 
 
 def check_all(program, kills):
-    checks = Checks(program)
+    checks = StoreChecks(program)
     for name, work in RUNS:
         checks.check(name, work)
     for name, statements, answers in unfit_files.FIT_FILES:
@@ -528,7 +506,7 @@ def check_all(program, kills):
     for script in sorted(glob.glob(os.path.join(TOP, "examples", "*.iq"))):
         checks.example(script)
     checks.check(f"a server that is killed, {kills} times", killed, kills)
-    return checks
+    return checks.passed, checks.failed
 
 
 def main(words):
@@ -538,9 +516,11 @@ def main(words):
     if sqlite3.sqlite_version_info < (3, 37):
         print(f"store: sqlite {sqlite3.sqlite_version} knows no STRICT tables, so nothing is checked")
         return 0
-    checks = check_all(os.path.abspath(words[0]), int(words[1]) if len(words) > 1 else KILLS)
-    print(f"{checks.passed} passed, {checks.failed} failed")
-    return checks.failed > 0
+    program = os.path.abspath(words[0])
+    passed, failed = check_all(program, int(words[1]) if len(words) > 1 else KILLS)
+    warm = warm_server.check_all(program)
+    print(f"{passed + warm.passed} passed, {failed + warm.failed} failed")
+    return failed + warm.failed > 0
 
 
 if __name__ == "__main__":

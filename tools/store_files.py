@@ -5,9 +5,12 @@ import signal
 import socket
 import sqlite3
 import subprocess
+import sys
+import tempfile
 from contextlib import closing
 
 PATIENCE = 60
+NOBODY = 65534
 
 MEMBER = "CREATE TABLE member(id INTEGER PRIMARY KEY, name TEXT NOT NULL) STRICT"
 LINK = (
@@ -133,25 +136,47 @@ def _limit(most):
     return limit if most else None
 
 
-class Server:
-    """A server over a file, or with no path over rows in memory, at a port that was free a moment ago."""
+def is_run_by_nobody(program):
+    """Whether the program can be run as another user, who may be kept from its folder."""
+    try:
+        return os.getuid() != 0 or run(program, [], user=NOBODY)[2] == 1
+    except (OSError, subprocess.SubprocessError):
+        return False
 
-    def __init__(self, program, path, members=3, workers=1, most=None):
+
+class Server:
+    """A server over a file, or with no path over rows in memory, at a port that was free a moment ago. `warm` names the
+    file of its cache."""
+
+    def __init__(self, program, path, members=3, workers=1, most=None, warm=None, shards=1, conns=1000, user=None):
         with socket.create_server(("127.0.0.1", 0)) as probe:
             self.port = probe.getsockname()[1]
-        words = [f"127.0.0.1:{self.port}", 1000, workers, 1, members]
+        options = [*(["--db", path] if path else []), *(["--warm", warm] if warm else [])]
+        words = [f"127.0.0.1:{self.port}", conns, workers, shards, members]
         self.process = subprocess.Popen(
-            [program, "serve", *(["--db", path] if path else []), *map(str, words)],
+            [program, "serve", *options, *map(str, words)],
             stdout=subprocess.PIPE,
             stderr=subprocess.PIPE,
             restore_signals=False,
             preexec_fn=_limit(most),
+            user=user,
         )
 
     def ready(self):
         """Waits until connections are taken."""
         expect(self.process.stdout.readline(), b"ready\n")
         return self
+
+    def begun(self):
+        """Waits until connections are taken. What is said before that: how the cache began."""
+        line = self.process.stdout.readline()
+        self.ready()
+        return line.decode().rstrip("\n")
+
+    def end(self):
+        """Waits for its end. What else it printed, its standard error, and its status."""
+        out, err = self.process.communicate(timeout=PATIENCE)
+        return out.decode(), err.decode(), self.process.returncode
 
     def give_room(self):
         """Lets its files grow."""
@@ -220,3 +245,26 @@ class Client:
 
     def __exit__(self, *_):
         self.close()
+
+
+class Checks:
+    """Runs checks, each in a folder of its own, and counts them."""
+
+    def __init__(self, head, folder):
+        self.head = head
+        self.folder = folder
+        self.passed = self.failed = 0
+
+    def check(self, name, work, *words):
+        """Calls this work on a new folder, and tells under this name how it went."""
+        place = tempfile.mkdtemp()
+        try:
+            work(self.folder(place), *words)
+            self.passed += 1
+            print(f"{self.head}: {name}: as it must be")
+        except Exception as wrong:  # Whatever a check meets, the others are made.
+            self.failed += 1
+            print(f"{self.head}: {name}: NOT as it must be: {str(wrong)[:600] or repr(wrong)}")
+        finally:
+            shutil.rmtree(place)
+        sys.stdout.flush()

@@ -6,3 +6,4 @@ pub mod WriteLemmas
 pub mod QuitLemmas
 pub mod DropLemmas
 pub mod DeskLemmas
+pub mod SaveLemmas

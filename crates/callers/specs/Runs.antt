@@ -1,5 +1,5 @@
 -- What is said of whole runs to who makes them.
-use Rattle.std.specs.Prelude.{ℕ, ◌≡◌, ◌<◌, ◌≤◌, Bool, true, List, [], ◌∷◌, ◌++◌, length, Option, Some, IfSome, IsSome, slice_get}
+use Rattle.std.specs.Prelude.{ℕ, ◌≡◌, ◌<◌, ◌≤◌, Bool, true, All, List, [], ◌∷◌, ◌++◌, length, Option, Some, IfSome, IsSome, slice_get}
 use Rattle.rows_model.specs.declared.keys.QKey.{QKey}
 use Rattle.rows_model.specs.declared.keys.Sid.{Sid}
 use Rattle.std.specs.Option.{ForSome}
@@ -9,6 +9,10 @@ use Rattle.rows_model.specs.Changes.{touches}
 use Rattle.key_shard.specs.declared.steps.Ended.{Ended}
 use Rattle.key_shard.specs.declared.steps.Step.{Step}
 use Rattle.key_shard.specs.declared.steps.Step.TheVariants.{Hit, Released}
+use Rattle.key_shard.specs.Answers.{Legal}
+use Rattle.shard_dump.specs.declared.rows.Dump.{Dump}
+use Rattle.cache_file.specs.Files.{SameElsewhere}
+use Rattle.cache_file.specs.Texts.{IsCacheText}
 use Rattle.sql_keeper.specs.declared.keepers.Place.{Place}
 use Rattle.sql_keeper.specs.declared.keepers.Place.TheVariants as places
 use Rattle.sql_keeper.specs.declared.stores.Commit.{Commit}
@@ -26,9 +30,11 @@ use Rattle.run_words.specs.declared.words.ServeSpec.{ServeSpec}
 use Rattle.top_run.specs.Runs.{IsRead, Prints, Tells, Left}
 use Rattle.run_words.specs.Words.{most_served}
 use Rattle.door_workers.specs.Attending.{HaveEnds, IsEnough}
-use Rattle.top_run.specs.Serves.{serve_shape, serve_keep, serve_text, line_count}
-use Rattle.top_run.specs.Warms.{HaveTakenOver, HitsHaveValues}
-use Rattle.top_run.specs.Works.{IsLeft, IsSummarized, work_shape}
+use Rattle.top_run.specs.declared.serves.Begun.{Begun}
+use Rattle.top_run.specs.Saves.{Files}
+use Rattle.top_run.specs.Serves.{serve_shape, serve_keep, serve_text, line_count, BeginsBy}
+use Rattle.top_run.specs.Warms.{HaveTakenOver, HitsHaveValues, rows_in}
+use Rattle.top_run.specs.Works.{IsLeft, IsSummarized, hub_terms, work_shape}
 
 -- A run at a fresh place, over a keeper that tells its rows for good, which began with these rows and has those at its end: it
 -- began with the rows of as many members as its script says, no hit is stale, each commit is covered, and the rows at the end
@@ -100,16 +106,43 @@ pub record HaveTakenOverRight (spec : WorkSpec) (rows : Option Tables) (earlier 
 
 -- A server ended Done: so many connections were served as were asked for, or the door said that no more come, as it did where no
 -- number was asked for. There is an end for each of a number of connections. The sink took all that a server writes, with the number
--- that were served; and of each shard there are the last steps of a legal history.
+-- that were served; how the cache began is in it where the words name a file for that. Of each shard there are the last steps of a
+-- legal history.
 pub record IsDoneServer (spec : ServeSpec) (taken_old taken_new : Option (List ℕ)) (ended : Bool)
     (ends : List LineEnd) (histories : List (List Step)) (written : ℕ) : Type 0 where
   pub lines : ℕ
   pub few : IfSome (most_served spec.conns) (λ most. lines ≤ most)
   pub have_ends : HaveEnds (most_served spec.conns) lines ends
   pub served : IsEnough (most_served spec.conns) lines ended
-  pub prints : Prints taken_old taken_new (serve_text (line_count lines)) written
+  pub begun : Begun
+  pub begins : BeginsBy spec.warm begun
+  pub prints : Prints taken_old taken_new (serve_text begun (line_count lines)) written
   pub as_many : length histories ≡ spec.shards
   pub legal : (place : ℕ) (history : List Step) → slice_get histories place ≡ Some history → IsLeft (serve_shape spec) serve_keep place history
+
+-- A dump is right for the shard of this number, of which a server leaves the last steps of a legal history beside this log: it has the
+-- rows that this history says are still right, and each value is its key's answer on the rows after the log.
+pub record IsRightDump (spec : ServeSpec) (opening : Tables) (log : List Commit) (histories : List (List Step)) (place : ℕ) (dump : Dump) : Type 0 where
+  pub steps : List Step
+  pub is_left : slice_get histories place ≡ Some steps
+  pub given_up : List Step
+  pub legal : Legal (hub_terms (serve_shape spec) serve_keep place) (given_up ++ steps)
+  pub rows_are : dump.rows ≡ rows_in log (given_up ++ steps)
+  pub right : All (λ row. row.value ≡ answer row.key (rows_after opening log)) dump.rows
+
+-- The text is that of a cache with as many shards as the words say, of which each dump is right for what a server leaves.
+pub record IsRightCache (spec : ServeSpec) (left : Left) (text : List ℕ) : Type 0 where
+  pub opening : Tables
+  pub opening_is : left.opening ≡ Some opening
+  pub dumps : List Dump
+  pub is_text : IsCacheText spec.shards text dumps
+  pub each : (place : ℕ) (dump : Dump) → slice_get dumps place ≡ Some dump → IsRightDump spec opening left.log left.histories place dump
+
+-- A server ended Done whose words name a file at this path for its cache. Where the file tells what it has, it has a cache that is right.
+-- Each other file has what it had.
+pub record HasSavedRight (path : List ℕ) (spec : ServeSpec) (left : Left) (old new : Files) : Type 0 where
+  pub saved : ForSome (new path) (IsRightCache spec left)
+  pub others : SameElsewhere path old new
 
 -- A hit behind a release of the key, in a history that has the earliest step first: between them and around them are any steps.
 pub record IsHitBehind (history : List Step) (key : QKey) (writer : Sid) (value : List ℕ) (stamp : ℕ) : Type 0 where
@@ -141,6 +174,7 @@ IsUnharmed status.ReadFault = ⊥
 IsUnharmed status.WriteFault = ⊥
 IsUnharmed status.DoorFault = ⊥
 IsUnharmed status.KeepFault = ⊥
+IsUnharmed status.FileFault = ⊥
 IsUnharmed (status.Spent shard) = ⊥
 
 -- Two runs came to the same: their sinks tell the same bytes, as many were counted, their keepers

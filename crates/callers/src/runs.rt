@@ -3,11 +3,12 @@ ghost use Rattle.std.specs.Prelude.{◌≡◌, ◌≢◌, ◌<◌, ◌-◌, ◌^
 ghost use Rattle.sql_keeper.specs.Fresh.{Covered};
 ghost use Rattle.top_run.specs.Runs.{told_by, moment, seen, histories_at, left_at};
 ghost use Rattle.top_run.specs.Serves.{phase_left};
+ghost use Rattle.cache_file.specs.Files.{SameTexts};
 ghost use Rattle.callers.specs.Shards.{MeetsItsFloor};
 ghost use Rattle.std.specs.Option.{ForSome};
 ghost use Rattle.sql_keeper.specs.declared.keepers.Place.{Place};
 ghost use Rattle.rows_model.specs.Rows.{Tables};
-ghost use Rattle.callers.specs.Runs.{IsFreshRun, IsRunAt, IsCleanLoad, IsFreshLoad, HaveTakenOverRight, IsDoneServer, HitsHoldCommits, IsUnharmed, AreAlike, IsBeginning};
+ghost use Rattle.callers.specs.Runs.{IsFreshRun, IsRunAt, IsCleanLoad, IsFreshLoad, HaveTakenOverRight, IsDoneServer, HasSavedRight, HitsHoldCommits, IsUnharmed, AreAlike, IsBeginning};
 ghost use Rattle.run_inputs.specs.declared.loads.WorkSpec.{WorkSpec};
 ghost use Rattle.run_words.specs.Words.{AreWords};
 ghost use Rattle.run_words.specs.declared.words.ServeSpec.{ServeSpec};
@@ -16,6 +17,7 @@ ghost use Rattle.callers.specs.Writes.{HitsAfterWrites};
 ghost use Rattle.callers.specs.Drops.{IsSweptRun};
 
 use crate::shards::hits_meet_their_floors;
+use cache_file::CacheFile;
 use core_history::laws::{runs_are_determined, runs_go_on, sweeps_are_final};
 use iq_outside::{Clock, Door, Gate, ListDoor, Sink, Source};
 use run_inputs::texts_tell_scripts;
@@ -148,11 +150,12 @@ pub fn run_covered<S: Source, W: Sink, K: Keeper>(
     replay(alloc, &Place::Fresh, source, sink, keeper)
 }
 
-/// Words that are refused leave the source, the sink and the keeper as they are.
+/// Words that are refused leave the source, the sink, the keeper and each file as they are.
 pub fn run_refused<
     S: Source,
     W: Sink,
     K: Keeper + Send,
+    F: CacheFile,
     D: Door,
     C: Clock,
     G: Gate,
@@ -164,15 +167,20 @@ pub fn run_refused<
     source: &mut S,
     sink: &mut W,
     keeper: K,
+    file: &mut F,
     door: &mut D,
     clock: &C,
     gate: &G,
 ) -> RunEnd<K>
-    ensures { result.status ≡ Status.Usage →
+    ensures same { result.status ≡ Status.Usage →
         seen (told_by S.Source source.new) W.Sink K.Keeper sink.new result.keeper
         ≡ seen (told_by S.Source source.old) W.Sink K.Keeper sink.old keeper }
+    ensures files { result.status ≡ Status.Usage →
+        SameTexts (F.text_at file.old) (F.text_at file.new) }
 {
-    run(rt, alloc, words, source, sink, keeper, door, clock, gate)
+    run(
+        rt, alloc, words, source, sink, keeper, file, door, clock, gate,
+    )
 }
 
 /// A load that ends Done left nothing stale, whatever its threads did, where the keeper tells its rows: its
@@ -182,6 +190,7 @@ pub fn run_load<
     S: Source,
     W: Sink,
     K: Keeper + Send,
+    F: CacheFile,
     D: Door,
     C: Clock,
     G: Gate,
@@ -193,6 +202,7 @@ pub fn run_load<
     source: &mut S,
     sink: &mut W,
     keeper: K,
+    file: &mut F,
     door: &mut D,
     clock: &C,
     gate: &G,
@@ -204,7 +214,9 @@ pub fn run_load<
         let after = seen (told_by S.Source source.new) W.Sink K.Keeper sink.new result.keeper in
         IsCleanLoad place spec before after (left_at result) result.written }
 {
-    run(rt, alloc, words, source, sink, keeper, door, clock, gate)
+    run(
+        rt, alloc, words, source, sink, keeper, file, door, clock, gate,
+    )
 }
 
 /// Two loads that end Done: the second took over exactly what was still right in the first one's cache. Where the
@@ -214,6 +226,7 @@ pub fn run_two_loads<
     S: Source,
     W: Sink,
     K: Keeper + Send,
+    F: CacheFile,
     D: Door,
     C: Clock,
     G: Gate,
@@ -225,6 +238,7 @@ pub fn run_two_loads<
     source: &mut S,
     sink: &mut W,
     keeper: K,
+    file: &mut F,
     door: &mut D,
     clock: &C,
     gate: &G,
@@ -234,7 +248,9 @@ pub fn run_two_loads<
         result.status ≡ Status.Done → HaveTakenOverRight spec (K.rows result.keeper)
         (map phase_left result.earlier.items) (left_at result) }
 {
-    run(rt, alloc, words, source, sink, keeper, door, clock, gate)
+    run(
+        rt, alloc, words, source, sink, keeper, file, door, clock, gate,
+    )
 }
 
 /// A load that ends Done left nothing stale, whatever its threads did, over a keeper that tells its rows for
@@ -244,6 +260,7 @@ pub fn run_telling_load<
     S: Source,
     W: Sink,
     K: Telling + Send,
+    F: CacheFile,
     D: Door,
     C: Clock,
     G: Gate,
@@ -255,6 +272,7 @@ pub fn run_telling_load<
     source: &mut S,
     sink: &mut W,
     keeper: K,
+    file: &mut F,
     door: &mut D,
     clock: &C,
     gate: &G,
@@ -265,16 +283,20 @@ pub fn run_telling_load<
         IsFreshLoad place spec (W.taken sink.old) (W.taken sink.new) (left_at result)
         result.written }
 {
-    run(rt, alloc, words, source, sink, keeper, door, clock, gate)
+    run(
+        rt, alloc, words, source, sink, keeper, file, door, clock, gate,
+    )
 }
 
 /// A server of these words over a door in memory that ends Done served as many connections as were asked for, or
 /// all that there were, as it did where the words say `forever`: the sink took `ready` and how many they were.
-/// How each of a number of connections ended is told. Each history is legal.
+/// Before `ready` it took how the cache began, where the words name a file for that. How each of a number of
+/// connections ended is told. Of each shard there are the last steps of a legal history.
 pub fn run_server<
     S: Source,
     W: Sink,
     K: Keeper + Send,
+    F: CacheFile,
     C: Clock,
     G: Gate,
     R: Threads + Wait + Sync,
@@ -285,6 +307,7 @@ pub fn run_server<
     source: &mut S,
     sink: &mut W,
     keeper: K,
+    file: &mut F,
     door: &mut ListDoor,
     clock: &C,
     gate: &G,
@@ -294,7 +317,44 @@ pub fn run_server<
         result.status ≡ Status.Done → IsDoneServer spec (W.taken sink.old) (W.taken sink.new)
         door.new.ended result.ends.items (histories_at result) result.written }
 {
-    run(rt, alloc, words, source, sink, keeper, door, clock, gate)
+    run(
+        rt, alloc, words, source, sink, keeper, file, door, clock, gate,
+    )
+}
+
+/// A server over a keeper that tells its rows for good, whose words name a file for its cache, leaves there what
+/// the next one may take over. Where it ends Done, and the file tells what it has, that is the text of a cache
+/// with a dump of each shard. Each value in these is its key's answer on the rows after the log. No other file
+/// is touched.
+pub fn run_saving_server<
+    S: Source,
+    W: Sink,
+    K: Telling + Send,
+    F: CacheFile,
+    D: Door,
+    C: Clock,
+    G: Gate,
+    R: Threads + Wait + Sync,
+>(
+    rt: &R,
+    alloc: Global,
+    words: &[Vec<u8>],
+    source: &mut S,
+    sink: &mut W,
+    keeper: K,
+    file: &mut F,
+    door: &mut D,
+    clock: &C,
+    gate: &G,
+) -> RunEnd<K>
+    ensures { (place : Place) (spec : ServeSpec) →
+        AreWords (map (λ word. word.items) words.now) (Words.Serve place spec) →
+        result.status ≡ Status.Done → IfSome spec.warm (λ path.
+        HasSavedRight path.items spec (left_at result) (F.text_at file.old) (F.text_at file.new)) }
+{
+    run(
+        rt, alloc, words, source, sink, keeper, file, door, clock, gate,
+    )
 }
 
 /// Two runs of one text over keepers in memory that both end Done put the same bytes into their sinks,

@@ -1,7 +1,9 @@
 //! The program: the words behind its name, standard input, standard output, connections over TCP, and an
 //! exit status. The rows of its store lie in an SQL database: in memory, or in the file that `--db` names.
+//! The cache of a server lies in the file that `--warm` names, while the server doesn't run.
 #![tactic(auto)]
 
+use cache_file::RuntimeFile;
 use iq_outside::{OpenGate, ReaderSource, RuntimeClock, TcpDoor, WriterSink};
 use sqlite_keeper::SqliteKeeper;
 use std::process::ExitCode;
@@ -15,6 +17,7 @@ fn main(rt: HostRuntime) -> ExitCode {
             let mut source = ReaderSource::new(rt.stdin());
             let mut sink = WriterSink::new(rt.stdout());
             let keeper = SqliteKeeper::new(&rt);
+            let mut file = RuntimeFile::new(&rt);
             let mut door = TcpDoor::new(&rt);
             let clock = RuntimeClock::new(&rt);
             let mut end = run(
@@ -24,6 +27,7 @@ fn main(rt: HostRuntime) -> ExitCode {
                 &mut source,
                 &mut sink,
                 keeper,
+                &mut file,
                 &mut door,
                 &clock,
                 &OpenGate,

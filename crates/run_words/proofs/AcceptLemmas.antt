@@ -1,6 +1,6 @@
 -- The words of a command are read as they stand.
 use Rattle.std.proofs.Common.{inl, inr, ℕ, zero, suc, ◌≡◌, ◌<◌, ◌≤◌, ◌^◌, ◌∙◌, List, [], ◌∷◌, ◌++◌, length, get_or, map, Result, Ok, Err, refl, sym, ap, subst, arith, ne_eqb}
-use Rattle.std.specs.Prelude.{All, IfOk, MatchResult, Some, ◌≢◌, codes, decimal, slice_get}
+use Rattle.std.specs.Prelude.{All, IfOk, IfSome, MatchResult, Option, Some, None, ◌≢◌, codes, decimal, slice_get}
 use Rattle.std.specs.Str.{IsUtf8, is_utf8}
 use Rattle.std.proofs.lemmas.Fmt.{IsAscii-decimal, decimal_digit, decimal_nonempty, first_decimal}
 use Rattle.std.proofs.lemmas.List.Elements.{All-cons, All-nil}
@@ -20,9 +20,9 @@ use Rattle.run_words.specs.declared.words.Words.TheVariants.{Replay, Work, Warm,
 use Rattle.run_words.specs.declared.words.WordsFault.{WordsFault}
 use Rattle.run_words.specs.declared.words.WordsFault.TheVariants.{Usage, Memory}
 use Rattle.run_words.specs.Program.{program}
-use Rattle.run_words.specs.Words.{AreCommand, AreWords, CanBeNamed, IsConns, conns_word, place_words, with_place}
+use Rattle.run_words.specs.Words.{AreCommand, AreWords, CanBeNamed, IsConns, IsPlainText, conns_word, path_in, place_words, warm_path, warm_words, with_options}
 use Rattle.run_words.specs.Reading.{AreSaid, AskForText, IsRead, IsSaid}
-use Rattle.run_words.proofs.TakenLemmas.{ArePlain, AreTakenAs, HasPlainPath, IsPlainWord, replay_taken, work_taken, serve_taken, warm_taken}
+use Rattle.run_words.proofs.TakenLemmas.{ArePlain, AreTakenAs, HasPlainPath, IsPlainPath, IsPlainWord, replay_taken, work_taken, serve_taken, warm_taken}
 
 -- ---- words are UTF-8, and begin with no hyphen
 
@@ -54,6 +54,10 @@ option_utf8 : IsUtf8 (codes "--db")
 unfolding clap_on_literals is_utf8
 option_utf8 = IsUtf8-from_is_utf8 (codes "--db") refl
 
+warm_option_utf8 : IsUtf8 (codes "--warm")
+unfolding clap_on_literals is_utf8
+warm_option_utf8 = IsUtf8-from_is_utf8 (codes "--warm") refl
+
 decimal_utf8 : (n : ℕ) → n < 2 ^ 64 → IsUtf8 (decimal n)
 decimal_utf8 n small = IsUtf8-from_ascii (decimal n) (IsAscii-decimal n small)
 
@@ -84,6 +88,10 @@ plain_path : (place : Place) → CanBeNamed place → HasPlainPath place
 plain_path Fresh named = tt
 plain_path (File path) named = plain_text path named.some named.no_hyphen
 
+plain_file : (warm : Option Text) → IfSome warm IsPlainText → IsPlainPath warm
+plain_file None plain = tt
+plain_file (Some path) plain = plain_text path plain.some plain.no_hyphen
+
 plain_five : (a b c d e : Text) → IsPlainWord a → IsPlainWord b → IsPlainWord c → IsPlainWord d → IsPlainWord e → ArePlain (a ∷ b ∷ c ∷ d ∷ e ∷ [])
 plain_five a b c d e p q r s t = (p, (q, (r, (s, (t, tt)))))
 
@@ -95,6 +103,12 @@ all_five a b c d e p q r s t =
     (All-cons IsUtf8 b (c ∷ d ∷ e ∷ []) q
     (All-cons IsUtf8 c (d ∷ e ∷ []) r (All-cons IsUtf8 d (e ∷ []) s (All-cons IsUtf8 e [] t (All-nil IsUtf8)))))
 
+-- the words of the file of a cache, and others
+all_filed : (warm : Option Text) (others : List Text) → IfSome warm IsPlainText → All IsUtf8 others → All IsUtf8 (warm_words warm ++ others)
+all_filed None others plain q = q
+all_filed (Some path) others plain q =
+    All-cons IsUtf8 (codes "--warm") (path ∷ others) warm_option_utf8 (All-cons IsUtf8 path others plain.utf8 q)
+
 -- a first word, those of a place, and others
 all_placed : (place : Place) (first : Text) (others : List Text) → CanBeNamed place → IsUtf8 first → All IsUtf8 others
     → All IsUtf8 (first ∷ (place_words place ++ others))
@@ -103,20 +117,22 @@ all_placed (File path) first others named p q =
     All-cons IsUtf8 first (codes "--db" ∷ path ∷ others) p
     (All-cons IsUtf8 (codes "--db") (path ∷ others) option_utf8 (All-cons IsUtf8 path others named.utf8 q))
 
--- UTF-8, and taken as these words at this place
-record Stand (words others : List Text) (place : Place) : Type 0 where
+-- UTF-8, and taken as these words at this place, with this file of a cache
+record Stand (words others : List Text) (place : Place) (warm : Option Text) : Type 0 where
   pub utf8 : All IsUtf8 words
-  pub taken : AreTakenAs words others place
+  pub taken : AreTakenAs words others place warm
 
--- so do words that are a first word, those of a place, and others
-stands : (words others : List Text) (place : Place) (first : Text) (values : List Text) → words ≡ with_place place others → others ≡ first ∷ values
-    → CanBeNamed place → IsUtf8 first → All IsUtf8 values → AreTakenAs (first ∷ (place_words place ++ values)) (first ∷ values) place
-    → Stand words others place
-stands words others place first values written is named p q t =
-    let same : words ≡ first ∷ (place_words place ++ values) = written ∙ ap (with_place place) is in
-    subst (λ (ws : List Text). Stand ws others place) (sym same)
-    (subst (λ (os : List Text). Stand (first ∷ (place_words place ++ values)) os place) (sym is)
-    (record { utf8 = all_placed place first values named p q; taken = t }))
+-- so do words that are a first word, those of a place and of the file of a cache, and others
+stands : (words others : List Text) (place : Place) (warm : Option Text) (first : Text) (values : List Text)
+    → words ≡ with_options place warm others → others ≡ first ∷ values
+    → CanBeNamed place → IfSome warm IsPlainText → IsUtf8 first → All IsUtf8 values
+    → AreTakenAs (first ∷ (place_words place ++ (warm_words warm ++ values))) (first ∷ values) place warm
+    → Stand words others place warm
+stands words others place warm first values written is named plain p q t =
+    let same : words ≡ first ∷ (place_words place ++ (warm_words warm ++ values)) = written ∙ ap (with_options place warm) is in
+    subst (λ (ws : List Text). Stand ws others place warm) (sym same)
+    (subst (λ (os : List Text). Stand (first ∷ (place_words place ++ (warm_words warm ++ values))) os place warm) (sym is)
+    (record { utf8 = all_placed place first (warm_words warm ++ values) named p (all_filed warm values plain q); taken = t }))
 
 -- the numbers of a load are such words
 load_words : (spec : WorkSpec) → IsWork spec → spec.seed < 2 ^ 64
@@ -137,14 +153,14 @@ load_words spec fits seed =
           (plain_decimal spec.shards shards) (plain_decimal spec.seed seed),
     )
 
-stand : (words : List Text) (command : Words) → (h : AreWords words command) → Stand words h.others h.place
+stand : (words : List Text) (command : Words) → (h : AreWords words command) → Stand words h.others h.place (warm_path command)
 stand words (Replay at) h =
-    stands words h.others h.place (codes "replay") [] h.written h.are_command.1 h.named replay_utf8 (All-nil IsUtf8)
+    stands words h.others h.place None (codes "replay") [] h.written h.are_command.1 h.named tt replay_utf8 (All-nil IsUtf8)
     (replay_taken h.place (plain_path h.place h.named))
 stand words (Work at spec) h =
     let are = h.are_command.1 in
     let each = load_words spec are.fits are.seed_below in
-    stands words h.others h.place (codes "work") _ h.written are.written h.named work_utf8 each.0
+    stands words h.others h.place None (codes "work") _ h.written are.written h.named tt work_utf8 each.0
     (work_taken h.place (plain_path h.place h.named) _ _ _ _ _ each.1)
 stand words (Warm at spec) h =
     let are = h.are_command.1 in
@@ -152,7 +168,8 @@ stand words (Warm at spec) h =
     let each = load_words spec load.fits load.seed_below in
     let behind = load.written in
     let numbers : are.numbers ≡ map decimal (numbers_of spec) = cc in
-    stands words h.others h.place (codes "warm") _ h.written (are.written ∙ ap (λ (ws : List Text). codes "warm" ∷ ws) numbers) h.named warm_utf8 each.0
+    stands words h.others h.place None (codes "warm") _ h.written (are.written ∙ ap (λ (ws : List Text). codes "warm" ∷ ws) numbers) h.named tt warm_utf8
+    each.0
     (warm_taken h.place (plain_path h.place h.named) _ _ _ _ _ each.1)
 stand words (Serve at spec) h =
     let are = h.are_command.1 in
@@ -171,8 +188,8 @@ stand words (Serve at spec) h =
     let utf8 =
     all_five _ _ _ _ _ address.utf8 (conns_utf8 spec.conns fits.conns) (decimal_utf8 spec.workers workers)
     (decimal_utf8 spec.shards shards) (decimal_utf8 spec.members members) in
-    stands words h.others h.place (codes "serve") _ h.written are.written h.named serve_utf8 utf8
-    (serve_taken h.place (plain_path h.place h.named) _ _ _ _ _ plain)
+    stands words h.others h.place (path_in spec.warm) (codes "serve") _ h.written are.written h.named fits.warm serve_utf8 utf8
+    (serve_taken h.place (plain_path h.place h.named) (path_in spec.warm) (plain_file (path_in spec.warm) fits.warm) _ _ _ _ _ plain)
 stand words (Page text) h = absurd h.are_command
 
 -- ---- what is read of them
@@ -180,7 +197,8 @@ stand words (Page text) h = absurd h.are_command
 -- what is said of words that are a command's is one that they are
 own_words : (words : List Text) (command : Words) (h : AreWords words command) (said : Words) → AreSaid words said → AreWords words said
 own_words words command h said is =
-    let t = (stand words command h).taken in
+    let t = (stand words command h).taken.given in
+    let path : warm_path command ≡ warm_path said = sym (is.given.path ∙ t.path_is) in
     record {
       place = h.place;
       named = h.named;
@@ -188,7 +206,7 @@ own_words words command h said is =
       are_command =
           subst (λ (place : Place). AreCommand h.others place said) t.place_is
           (subst (λ (line : List Text). AreCommand line _ said) t.line_is is.given.are_command);
-      written = h.written;
+      written = h.written ∙ ap (λ (warm : Option Text). with_options h.place warm h.others) path;
     }
 
 -- and the command itself is said of them
@@ -198,10 +216,11 @@ own_said words command h =
     record {
       taken = t.taken;
       given = record {
-        named = subst CanBeNamed (sym t.place_is) h.named;
+        named = subst CanBeNamed (sym t.given.place_is) h.named;
         are_command =
-            subst (λ (place : Place). AreCommand _ place command) (sym t.place_is)
-            (subst (λ (line : List Text). AreCommand line h.place command) (sym t.line_is) h.are_command);
+            subst (λ (place : Place). AreCommand _ place command) (sym t.given.place_is)
+            (subst (λ (line : List Text). AreCommand line h.place command) (sym t.given.line_is) h.are_command);
+        path = sym t.given.path_is;
       };
     }
 

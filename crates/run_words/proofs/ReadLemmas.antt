@@ -16,8 +16,8 @@ use Rattle.run_words.specs.declared.words.Words.TheVariants.{Replay, Work, Warm,
 use Rattle.run_words.specs.declared.words.WordsFault.{WordsFault}
 use Rattle.run_words.specs.declared.words.WordsFault.TheVariants as fault
 use Rattle.run_words.specs.Program.{program}
-use Rattle.run_words.specs.Words.{AreCommand, CanBeNamed}
-use Rattle.run_words.specs.Reading.{line_of, place_in, place_of, AreGiven, AreSaid, AskForText, IsSaid, IsText, IsRefused}
+use Rattle.run_words.specs.Words.{AreCommand, CanBeNamed, warm_path}
+use Rattle.run_words.specs.Reading.{line_of, path_of, place_in, place_of, AreGiven, AreSaid, AskForText, IsSaid, IsText, IsRefused}
 use Rattle.run_words.proofs.TakenLemmas.{program_simple, program_free}
 
 -- ---- the line of a subcommand
@@ -58,6 +58,16 @@ place_named m name found path name_is rows_are got =
     ap place_of (named _ _ (out-ArgMatches m).subcommand name (rows_of found) name_is rows_are)
     ∙ ap place_in (sym (first_value-rows found (codes "db")) ∙ sym got)
 
+-- and with the file of a cache that `--warm` names
+pub path_named : (m : ArgMatches) (name : Text) (found : Found) (path : Option (Bor Text))
+    → Some name ≡ subcommand_name_of m → Some (rows_of found) ≡ option_map (λ (p : Text × List Row). p.1) (subcommand_rows_of m)
+    → option_map (λ (text : Bor Text). text.now) path ≡ first_value found (codes "warm")
+    → path_of (subcommand_rows_of m) ≡ option_map (λ (text : Bor Text). text.now) path
+path_named m name found path name_is rows_are got =
+    ap path_of (named _ _ (out-ArgMatches m).subcommand name (rows_of found) name_is rows_are)
+    ∙ sym (first_value-rows found (codes "warm"))
+    ∙ sym got
+
 -- ---- what a subcommand and its matches are
 
 -- a place that is named, or none
@@ -68,27 +78,31 @@ pub no_place : (o : Option Place) (path : Place) → ((place : Place) → o ≡ 
 no_place (Some place) path none h = λ _. none place refl
 no_place None path none h = h
 
-pub given_found : {E : Type 0} (given : Option (Text × List Row)) (line : List Text) (place : Place) (r : Result (Option Words) E)
-    → line_of given ≡ line → place_of given ≡ place → CanBeNamed place
-    → IfOk r (λ (found : Option Words). IfSome found (AreCommand line place)) → IfOk r (λ (found : Option Words). IfSome found (AreGiven given))
-given_found given line place (Ok (Some command)) line_is at named h = record {
+pub given_found : {E : Type 0} (given : Option (Text × List Row)) (line : List Text) (place : Place) (warm : Option Text)
+    (r : Result (Option Words) E) → line_of given ≡ line → place_of given ≡ place → path_of given ≡ warm → CanBeNamed place
+    → IfOk r (λ (found : Option Words). IfSome found (AreCommand line place))
+    → IfOk r (λ (found : Option Words). IfSome found (λ (command : Words). warm_path command ≡ warm))
+    → IfOk r (λ (found : Option Words). IfSome found (AreGiven given))
+given_found given line place warm (Ok (Some command)) line_is at path_is named h path = record {
   named = subst CanBeNamed (sym at) named;
   are_command =
       subst (λ (p : Place). AreCommand (line_of given) p command) (sym at)
       (subst (λ (l : List Text). AreCommand l place command) (sym line_is) h);
+  path = path ∙ sym path_is;
 }
-given_found given line place (Ok None) line_is at named h = tt
-given_found given line place (Err e) line_is at named h = tt
+given_found given line place warm (Ok None) line_is at path_is named h path = tt
+given_found given line place warm (Err e) line_is at path_is named h path = tt
 
-pub given_none : {E : Type 0} (given : Option (Text × List Row)) (line : List Text) (place : Place) (r : Result (Option Words) E)
-    → line_of given ≡ line → place_of given ≡ place
-    → IfOk r (λ (found : Option Words). IfNone found ((command : Words) → AreCommand line place command → ⊥))
+pub given_none : {E : Type 0} (given : Option (Text × List Row)) (line : List Text) (place : Place) (warm : Option Text)
+    (r : Result (Option Words) E) → line_of given ≡ line → place_of given ≡ place → path_of given ≡ warm
+    → IfOk r (λ (found : Option Words). IfNone found ((command : Words) → AreCommand line place command → warm_path command ≡ warm → ⊥))
     → IfOk r (λ (found : Option Words). IfNone found ((command : Words) → AreGiven given command → ⊥))
-given_none given line place (Ok (Some command)) line_is at h = tt
-given_none given line place (Ok None) line_is at h = λ command k.
+given_none given line place warm (Ok (Some command)) line_is at path_is h = tt
+given_none given line place warm (Ok None) line_is at path_is h = λ command k.
     h command (subst (λ (p : Place). AreCommand line p command) at
     (subst (λ (l : List Text). AreCommand l (place_of given) command) line_is k.are_command))
-given_none given line place (Err e) line_is at h = tt
+    (k.path ∙ path_is)
+given_none given line place warm (Err e) line_is at path_is h = tt
 
 -- ---- words that `clap` takes
 

@@ -1,5 +1,5 @@
 -- What `clap` makes of the words of a command.
-use Rattle.std.proofs.Common.{◌==◌, ◌≡◌, ◌∙◌, true, false, List, [], ◌∷◌, ◌++◌, Option, Some, None, refl, ap, ap₂}
+use Rattle.std.proofs.Common.{◌==◌, ◌≡◌, ◌∙◌, Bool, true, false, List, [], ◌∷◌, ◌++◌, Option, Some, None, refl, ap, ap₂}
 use Rattle.std.specs.Prelude.{codes}
 use Rattle.std.specs.List.{fold}
 use Rattle.std.specs.Str.{bytes_eq}
@@ -13,9 +13,9 @@ use Rattle.clap.proofs.OnLiterals.{clap_on_literals}
 use Rattle.clap.specs.declared.parser.matches.ValueSource.TheVariants.{CommandLine}
 use Rattle.sql_keeper.specs.declared.keepers.Place.{Place}
 use Rattle.sql_keeper.specs.declared.keepers.Place.TheVariants.{Fresh, File}
-use Rattle.run_words.specs.Program.{program, db_rule, values_rule}
-use Rattle.run_words.specs.Words.{place_words}
-use Rattle.run_words.specs.Reading.{line_of, place_of}
+use Rattle.run_words.specs.Program.{program, db_rule, values_rule, warm_rule}
+use Rattle.run_words.specs.Words.{place_words, warm_words}
+use Rattle.run_words.specs.Reading.{line_of, path_of, place_of}
 
 pub program_simple : is_simple program ≡ true
 unfolding clap_on_literals
@@ -54,6 +54,11 @@ abbrev pub HasPlainPath : Place → Type 0
 HasPlainPath Fresh = Unit {0}
 HasPlainPath (File path) = IsPlainWord path
 
+-- and so does the path of the file of a cache, where there is one
+abbrev pub IsPlainPath : Option Text → Type 0
+IsPlainPath None = Unit {0}
+IsPlainPath (Some path) = IsPlainWord path
+
 -- is a value of the positional
 first_met : (rules : List Rule) (word : Text) (h : Held) → IsPlainWord word → subcommand_or_other rules None idle 1 word h ≡ (h, value)
 first_met rules word h p = rw (no_dashes word p, no_long word p, no_short word p) refl
@@ -73,6 +78,15 @@ valued = filled_from 1 (values_rule ∷ help_rule ∷ [])
 
 abbrev bare : List Rule
 bare = filled_from 1 (help_rule ∷ [])
+
+-- the option `--warm`, filled in, and five values and help
+abbrev served : List Rule
+served = with_index 1 (filled warm_rule) ∷ valued
+
+-- five values and help, with that option or without it
+abbrev taking : Bool → List Rule
+taking false = valued
+taking true = served
 
 abbrev leaf : List Rule → Text → Shape
 leaf others name = record (new_shape name) { rules = ruled others; no_binary_name = true; disable_help_subcommand = true; is_built = true }
@@ -138,41 +152,113 @@ place_faultless others name (File path) p words =
     ∙ ap₂ or_else (path_turn others name path p)
     (ap (λ (w : Walk). walk_fault (leaf others name) [] w words) (path_walked others path p)))
 
--- ---- the walk over five values
-
--- what was found before them
-abbrev found : Place → List Row
-found Fresh = []
-found (File path) = record {
-  id = codes "db";
+-- what was found for an option with one value
+abbrev row_at : Rule → Text → Row
+row_at rule path = record {
+  id = rule.id;
   values = path ∷ [];
   count = None;
   source = Some CommandLine;
-  reading = reading_by (with_index 1 (filled db_rule));
-} ∷ []
+  reading = reading_by (with_index 1 (filled rule));
+}
 
--- so many values are there
-abbrev after : Place → List Text → Walk
-after place values = record {
-  held = record { rows = found place; pending = Some (codes "values", values); skip = 0 };
+-- what is found of a place
+abbrev found : Place → List Row
+found Fresh = []
+found (File path) = row_at db_rule path ∷ []
+
+-- ---- the walk over the words of the file of a cache
+
+-- its path is there, behind the words of a place
+abbrev past_options : Place → Option Text → Walk
+past_options place None = past_place place
+past_options place (Some path) = record {
+  held = record { rows = found place; pending = Some (codes "warm", path ∷ []); skip = 0 };
+  waiting = idle;
+  position = 1;
+  is_trailing = false;
+  stopped = None;
+}
+
+-- `--warm` alone is there
+abbrev waiting_warm : Place → Walk
+waiting_warm place = record {
+  held = record { rows = found place; pending = Some (codes "warm", []); skip = 0 };
+  waiting = option (codes "warm");
+  position = 1;
+  is_trailing = false;
+  stopped = None;
+}
+
+warm_option_walked : (place : Place) → walked (ruled served) [] (past_place place) (codes "--warm") ≡ waiting_warm place
+unfolding clap_on_literals
+warm_option_walked Fresh = refl
+warm_option_walked (File path) = refl
+
+warm_path_met : (place : Place) (path : Text) → IsPlainWord path
+    → subcommand_or_other (ruled served) None (option (codes "warm")) 1 path (waiting_warm place).held
+    ≡ ((past_options place (Some path)).held, next idle)
+unfolding clap_on_literals
+warm_path_met place path p = rw (no_dashes path p, no_long path p, no_short path p) refl
+
+warm_path_walked : (place : Place) (path : Text) → IsPlainWord path
+    → walked (ruled served) [] (waiting_warm place) path ≡ past_options place (Some path)
+unfolding clap_on_literals
+warm_path_walked place path p =
+    ap (λ (met : Held × Step). after_step (ruled served) path (waiting_warm place) met.0 met.1) (warm_path_met place path p)
+
+warm_option_turn : (place : Place) (name : Text) → turn_fault (leaf served name) [] (past_place place) (codes "--warm") ≡ []
+unfolding clap_on_literals
+warm_option_turn Fresh name = refl
+warm_option_turn (File path) name = refl
+
+warm_path_turn : (place : Place) (name path : Text) → IsPlainWord path → turn_fault (leaf served name) [] (waiting_warm place) path ≡ []
+unfolding clap_on_literals
+warm_path_turn place name path p = rw (warm_path_met place path p, no_dashes path p, no_long path p, no_short path p) refl
+
+warm_walked : (place : Place) (warm : Option Text) → IsPlainPath warm → (words : List Text)
+    → fold (walked (ruled served) []) (past_place place) (warm_words warm ++ words)
+    ≡ fold (walked (ruled served) []) (past_options place warm) words
+warm_walked place None p words = refl
+warm_walked place (Some path) p words =
+    ap (λ (w : Walk). fold (walked (ruled served) []) w (path ∷ words)) (warm_option_walked place)
+    ∙ ap (λ (w : Walk). fold (walked (ruled served) []) w words) (warm_path_walked place path p)
+
+warm_faultless : (name : Text) (place : Place) (warm : Option Text) → IsPlainPath warm → (words : List Text)
+    → walk_fault (leaf served name) [] (past_place place) (warm_words warm ++ words)
+    ≡ walk_fault (leaf served name) [] (past_options place warm) words
+unfolding walk_fault
+warm_faultless name place None p words = refl
+warm_faultless name place (Some path) p words =
+    ap₂ or_else (warm_option_turn place name)
+    (ap (λ (w : Walk). walk_fault (leaf served name) [] w (path ∷ words)) (warm_option_walked place)
+    ∙ ap₂ or_else (warm_path_turn place name path p)
+    (ap (λ (w : Walk). walk_fault (leaf served name) [] w words) (warm_path_walked place path p)))
+
+-- ---- the walk over five values
+
+-- what was found before them
+abbrev found_before : Place → Option Text → List Row
+found_before place None = found place
+found_before place (Some path) = found place ++ row_at warm_rule path ∷ []
+
+-- so many values are there, behind these rows
+abbrev after : List Row → List Text → Walk
+after rows values = record {
+  held = record { rows = rows; pending = Some (codes "values", values); skip = 0 };
   waiting = positional;
   position = 1;
   is_trailing = false;
   stopped = None;
 }
 
-first_walked : (place : Place) (word : Text) → IsPlainWord word → walked (ruled valued) [] (past_place place) word ≡ after place (word ∷ [])
+-- the first of them
+first_walked : (place : Place) (word : Text) → IsPlainWord word → walked (ruled valued) [] (past_place place) word ≡ after (found place) (word ∷ [])
 unfolding clap_on_literals
 first_walked Fresh word p =
     ap (λ (met : Held × Step). after_step (ruled valued) word (past_place Fresh) met.0 met.1) (first_met (ruled valued) word (past_place Fresh).held p)
 first_walked (File path) word p =
     ap (λ (met : Held × Step). after_step (ruled valued) word (past_place (File path)) met.0 met.1) (first_met (ruled valued) word (past_place (File path)).held p)
-
-next_walked : (place : Place) (values : List Text) (word : Text) → IsPlainWord word
-    → walked (ruled valued) [] (after place values) word ≡ after place (values ++ word ∷ [])
-unfolding clap_on_literals
-next_walked place values word p =
-    ap (λ (met : Held × Step). after_step (ruled valued) word (after place values) met.0 met.1) (next_met (ruled valued) word (after place values).held p)
 
 first_turn : (name : Text) (place : Place) (word : Text) → IsPlainWord word → turn_fault (leaf valued name) [] (past_place place) word ≡ []
 unfolding clap_on_literals
@@ -180,38 +266,78 @@ first_turn name Fresh word p = rw (first_met (ruled valued) word (past_place Fre
 first_turn name (File path) word p =
     rw (first_met (ruled valued) word (past_place (File path)).held p, no_dashes word p, no_long word p, no_short word p) refl
 
-next_turn : (name : Text) (place : Place) (values : List Text) (word : Text) → IsPlainWord word
-    → turn_fault (leaf valued name) [] (after place values) word ≡ []
+-- or the first of them of what is served
+served_first : (place : Place) (warm : Option Text) (word : Text) → IsPlainWord word
+    → walked (ruled served) [] (past_options place warm) word ≡ after (found_before place warm) (word ∷ [])
 unfolding clap_on_literals
-next_turn name place values word p =
-    rw (next_met (ruled valued) word (after place values).held p, no_dashes word p, no_long word p, no_short word p) refl
+served_first Fresh None word p =
+    let w = past_options Fresh None in
+    ap (λ (met : Held × Step). after_step (ruled served) word w met.0 met.1) (first_met (ruled served) word w.held p)
+served_first Fresh (Some path) word p =
+    let w = past_options Fresh (Some path) in
+    ap (λ (met : Held × Step). after_step (ruled served) word w met.0 met.1) (first_met (ruled served) word w.held p)
+served_first (File at) None word p =
+    let w = past_options (File at) None in
+    ap (λ (met : Held × Step). after_step (ruled served) word w met.0 met.1) (first_met (ruled served) word w.held p)
+served_first (File at) (Some path) word p =
+    let w = past_options (File at) (Some path) in
+    ap (λ (met : Held × Step). after_step (ruled served) word w met.0 met.1) (first_met (ruled served) word w.held p)
+
+served_turn : (name : Text) (place : Place) (warm : Option Text) (word : Text) → IsPlainWord word
+    → turn_fault (leaf served name) [] (past_options place warm) word ≡ []
+unfolding clap_on_literals
+served_turn name Fresh None word p =
+    rw (first_met (ruled served) word (past_options Fresh None).held p, no_dashes word p, no_long word p, no_short word p) refl
+served_turn name Fresh (Some path) word p =
+    rw (first_met (ruled served) word (past_options Fresh (Some path)).held p, no_dashes word p, no_long word p, no_short word p) refl
+served_turn name (File at) None word p =
+    rw (first_met (ruled served) word (past_options (File at) None).held p, no_dashes word p, no_long word p, no_short word p) refl
+served_turn name (File at) (Some path) word p =
+    rw (first_met (ruled served) word (past_options (File at) (Some path)).held p, no_dashes word p, no_long word p, no_short word p) refl
+
+-- and each of the next
+next_walked : (warms : Bool) (rows : List Row) (values : List Text) (word : Text) → IsPlainWord word
+    → walked (ruled (taking warms)) [] (after rows values) word ≡ after rows (values ++ word ∷ [])
+unfolding clap_on_literals
+next_walked false rows values word p =
+    ap (λ (met : Held × Step). after_step (ruled valued) word (after rows values) met.0 met.1) (next_met (ruled valued) word (after rows values).held p)
+next_walked true rows values word p =
+    ap (λ (met : Held × Step). after_step (ruled served) word (after rows values) met.0 met.1) (next_met (ruled served) word (after rows values).held p)
+
+next_turn : (warms : Bool) (name : Text) (rows : List Row) (values : List Text) (word : Text) → IsPlainWord word
+    → turn_fault (leaf (taking warms) name) [] (after rows values) word ≡ []
+unfolding clap_on_literals
+next_turn false name rows values word p =
+    rw (next_met (ruled valued) word (after rows values).held p, no_dashes word p, no_long word p, no_short word p) refl
+next_turn true name rows values word p =
+    rw (next_met (ruled served) word (after rows values).held p, no_dashes word p, no_long word p, no_short word p) refl
 
 abbrev joined : List Text → List Text → List Text
 joined values [] = values
 joined values (word ∷ words) = joined (values ++ word ∷ []) words
 
-more_walked : (place : Place) (values words : List Text) → ArePlain words
-    → fold (walked (ruled valued) []) (after place values) words ≡ after place (joined values words)
-more_walked place values [] p = refl
-more_walked place values (word ∷ words) p =
-    ap (λ (w : Walk). fold (walked (ruled valued) []) w words) (next_walked place values word p.0)
-    ∙ more_walked place (values ++ word ∷ []) words p.1
+more_walked : (warms : Bool) (rows : List Row) (values words : List Text) → ArePlain words
+    → fold (walked (ruled (taking warms)) []) (after rows values) words ≡ after rows (joined values words)
+more_walked warms rows values [] p = refl
+more_walked warms rows values (word ∷ words) p =
+    ap (λ (w : Walk). fold (walked (ruled (taking warms)) []) w words) (next_walked warms rows values word p.0)
+    ∙ more_walked warms rows (values ++ word ∷ []) words p.1
+
+more_faultless : (warms : Bool) (name : Text) (rows : List Row) (values words : List Text) → ArePlain words
+    → walk_fault (leaf (taking warms) name) [] (after rows values) words ≡ []
+unfolding walk_fault
+more_faultless warms name rows values [] p = refl
+more_faultless warms name rows values (word ∷ words) p =
+    ap₂ or_else (next_turn warms name rows values word p.0)
+    (ap (λ (w : Walk). walk_fault (leaf (taking warms) name) [] w words) (next_walked warms rows values word p.0)
+    ∙ more_faultless warms name rows (values ++ word ∷ []) words p.1)
 
 all_walked : (place : Place) → HasPlainPath place → (word : Text) (words : List Text) → ArePlain (word ∷ words)
-    → walk (ruled valued) [] nothing_held (place_words place ++ word ∷ words) ≡ after place (joined (word ∷ []) words)
+    → walk (ruled valued) [] nothing_held (place_words place ++ word ∷ words) ≡ after (found place) (joined (word ∷ []) words)
 all_walked place at word words p =
     place_walked valued place at (word ∷ words)
     ∙ ap (λ (w : Walk). fold (walked (ruled valued) []) w words) (first_walked place word p.0)
-    ∙ more_walked place (word ∷ []) words p.1
-
-more_faultless : (name : Text) (place : Place) (values words : List Text) → ArePlain words
-    → walk_fault (leaf valued name) [] (after place values) words ≡ []
-unfolding walk_fault
-more_faultless name place values [] p = refl
-more_faultless name place values (word ∷ words) p =
-    ap₂ or_else (next_turn name place values word p.0)
-    (ap (λ (w : Walk). walk_fault (leaf valued name) [] w words) (next_walked place values word p.0)
-    ∙ more_faultless name place (values ++ word ∷ []) words p.1)
+    ∙ more_walked false (found place) (word ∷ []) words p.1
 
 all_faultless : (name : Text) (place : Place) → HasPlainPath place → (word : Text) (words : List Text) → ArePlain (word ∷ words)
     → walk_fault (leaf valued name) [] (walk_from nothing_held) (place_words place ++ word ∷ words) ≡ []
@@ -219,7 +345,29 @@ unfolding walk_fault
 all_faultless name place at word words p =
     place_faultless valued name place at (word ∷ words)
     ∙ ap₂ or_else (first_turn name place word p.0)
-    (ap (λ (w : Walk). walk_fault (leaf valued name) [] w words) (first_walked place word p.0) ∙ more_faultless name place (word ∷ []) words p.1)
+    (ap (λ (w : Walk). walk_fault (leaf valued name) [] w words) (first_walked place word p.0)
+    ∙ more_faultless false name (found place) (word ∷ []) words p.1)
+
+served_walked : (place : Place) → HasPlainPath place → (warm : Option Text) → IsPlainPath warm
+    → (word : Text) (words : List Text) → ArePlain (word ∷ words)
+    → walk (ruled served) [] nothing_held (place_words place ++ (warm_words warm ++ word ∷ words))
+    ≡ after (found_before place warm) (joined (word ∷ []) words)
+served_walked place at warm path word words p =
+    place_walked served place at (warm_words warm ++ word ∷ words)
+    ∙ warm_walked place warm path (word ∷ words)
+    ∙ ap (λ (w : Walk). fold (walked (ruled served) []) w words) (served_first place warm word p.0)
+    ∙ more_walked true (found_before place warm) (word ∷ []) words p.1
+
+served_faultless : (name : Text) (place : Place) → HasPlainPath place → (warm : Option Text) → IsPlainPath warm
+    → (word : Text) (words : List Text) → ArePlain (word ∷ words)
+    → walk_fault (leaf served name) [] (walk_from nothing_held) (place_words place ++ (warm_words warm ++ word ∷ words)) ≡ []
+unfolding walk_fault
+served_faultless name place at warm path word words p =
+    place_faultless served name place at (warm_words warm ++ word ∷ words)
+    ∙ warm_faultless name place warm path (word ∷ words)
+    ∙ ap₂ or_else (served_turn name place warm word p.0)
+    (ap (λ (w : Walk). walk_fault (leaf served name) [] w words) (served_first place warm word p.0)
+    ∙ more_faultless true name (found_before place warm) (word ∷ []) words p.1)
 
 -- ---- five values
 
@@ -239,75 +387,148 @@ leaf_faultless name Fresh at a b c d e p =
 leaf_faultless name (File path) at a b c d e p =
     ap₂ (ended valued name) (all_faultless name (File path) at a (b ∷ c ∷ d ∷ e ∷ []) p) (all_walked (File path) at a (b ∷ c ∷ d ∷ e ∷ []) p)
 
+-- so is what is served
+served_leaf_faultless : (name : Text) (place : Place) → HasPlainPath place → (warm : Option Text) → IsPlainPath warm
+    → (a b c d e : Text) → ArePlain (a ∷ b ∷ c ∷ d ∷ e ∷ [])
+    → level_fault (leaf served name) [] nothing_held (place_words place ++ (warm_words warm ++ a ∷ b ∷ c ∷ d ∷ e ∷ [])) false [] ≡ []
+unfolding clap_on_literals
+served_leaf_faultless name Fresh at None path a b c d e p =
+    ap₂ (ended served name) (served_faultless name Fresh at None path a (b ∷ c ∷ d ∷ e ∷ []) p)
+    (served_walked Fresh at None path a (b ∷ c ∷ d ∷ e ∷ []) p)
+served_leaf_faultless name Fresh at (Some file) path a b c d e p =
+    ap₂ (ended served name) (served_faultless name Fresh at (Some file) path a (b ∷ c ∷ d ∷ e ∷ []) p)
+    (served_walked Fresh at (Some file) path a (b ∷ c ∷ d ∷ e ∷ []) p)
+served_leaf_faultless name (File db) at None path a b c d e p =
+    ap₂ (ended served name) (served_faultless name (File db) at None path a (b ∷ c ∷ d ∷ e ∷ []) p)
+    (served_walked (File db) at None path a (b ∷ c ∷ d ∷ e ∷ []) p)
+served_leaf_faultless name (File db) at (Some file) path a b c d e p =
+    ap₂ (ended served name) (served_faultless name (File db) at (Some file) path a (b ∷ c ∷ d ∷ e ∷ []) p)
+    (served_walked (File db) at (Some file) path a (b ∷ c ∷ d ∷ e ∷ []) p)
+
+-- what is given is this line, at this place, with this file of a cache
+pub record IsGiven (line : List Text) (place : Place) (warm : Option Text) (given : Option (Text × List Row)) : Type 0 where
+  pub line_is : line_of given ≡ line
+  pub place_is : place_of given ≡ place
+  pub path_is : path_of given ≡ warm
+
 -- the subcommand of this name, with what it is given
-abbrev given_by : Text → Walk → Option (Text × List Row)
-given_by name w = Some (name, finished (ruled valued) w.held)
+abbrev given_by : List Rule → Text → Walk → Option (Text × List Row)
+given_by others name w = Some (name, finished (ruled others) w.held)
 
-leaf_line : (name : Text) (place : Place) → HasPlainPath place → (a b c d e : Text) → ArePlain (a ∷ b ∷ c ∷ d ∷ e ∷ [])
-    → line_of (given_by name (walk (ruled valued) [] nothing_held (place_words place ++ a ∷ b ∷ c ∷ d ∷ e ∷ []))) ≡ name ∷ a ∷ b ∷ c ∷ d ∷ e ∷ []
+leaf_given : (name : Text) (place : Place) → HasPlainPath place → (a b c d e : Text) → ArePlain (a ∷ b ∷ c ∷ d ∷ e ∷ [])
+    → IsGiven (name ∷ a ∷ b ∷ c ∷ d ∷ e ∷ []) place None
+    (given_by valued name (walk (ruled valued) [] nothing_held (place_words place ++ a ∷ b ∷ c ∷ d ∷ e ∷ [])))
 unfolding clap_on_literals
-leaf_line name Fresh at a b c d e p = ap (λ (w : Walk). line_of (given_by name w)) (all_walked Fresh at a (b ∷ c ∷ d ∷ e ∷ []) p)
-leaf_line name (File path) at a b c d e p = ap (λ (w : Walk). line_of (given_by name w)) (all_walked (File path) at a (b ∷ c ∷ d ∷ e ∷ []) p)
+leaf_given name Fresh at a b c d e p =
+    let is = all_walked Fresh at a (b ∷ c ∷ d ∷ e ∷ []) p in
+    record {
+      line_is = ap (λ (w : Walk). line_of (given_by valued name w)) is;
+      place_is = ap (λ (w : Walk). place_of (given_by valued name w)) is;
+      path_is = ap (λ (w : Walk). path_of (given_by valued name w)) is;
+    }
+leaf_given name (File path) at a b c d e p =
+    let is = all_walked (File path) at a (b ∷ c ∷ d ∷ e ∷ []) p in
+    record {
+      line_is = ap (λ (w : Walk). line_of (given_by valued name w)) is;
+      place_is = ap (λ (w : Walk). place_of (given_by valued name w)) is;
+      path_is = ap (λ (w : Walk). path_of (given_by valued name w)) is;
+    }
 
-leaf_place : (name : Text) (place : Place) → HasPlainPath place → (a b c d e : Text) → ArePlain (a ∷ b ∷ c ∷ d ∷ e ∷ [])
-    → place_of (given_by name (walk (ruled valued) [] nothing_held (place_words place ++ a ∷ b ∷ c ∷ d ∷ e ∷ []))) ≡ place
+served_given : (name : Text) (place : Place) → HasPlainPath place → (warm : Option Text) → IsPlainPath warm
+    → (a b c d e : Text) → ArePlain (a ∷ b ∷ c ∷ d ∷ e ∷ [])
+    → IsGiven (name ∷ a ∷ b ∷ c ∷ d ∷ e ∷ []) place warm
+    (given_by served name (walk (ruled served) [] nothing_held (place_words place ++ (warm_words warm ++ a ∷ b ∷ c ∷ d ∷ e ∷ []))))
 unfolding clap_on_literals
-leaf_place name Fresh at a b c d e p = ap (λ (w : Walk). place_of (given_by name w)) (all_walked Fresh at a (b ∷ c ∷ d ∷ e ∷ []) p)
-leaf_place name (File path) at a b c d e p = ap (λ (w : Walk). place_of (given_by name w)) (all_walked (File path) at a (b ∷ c ∷ d ∷ e ∷ []) p)
+served_given name Fresh at None path a b c d e p =
+    let is = served_walked Fresh at None path a (b ∷ c ∷ d ∷ e ∷ []) p in
+    record {
+      line_is = ap (λ (w : Walk). line_of (given_by served name w)) is;
+      place_is = ap (λ (w : Walk). place_of (given_by served name w)) is;
+      path_is = ap (λ (w : Walk). path_of (given_by served name w)) is;
+    }
+served_given name Fresh at (Some file) path a b c d e p =
+    let is = served_walked Fresh at (Some file) path a (b ∷ c ∷ d ∷ e ∷ []) p in
+    record {
+      line_is = ap (λ (w : Walk). line_of (given_by served name w)) is;
+      place_is = ap (λ (w : Walk). place_of (given_by served name w)) is;
+      path_is = ap (λ (w : Walk). path_of (given_by served name w)) is;
+    }
+served_given name (File db) at None path a b c d e p =
+    let is = served_walked (File db) at None path a (b ∷ c ∷ d ∷ e ∷ []) p in
+    record {
+      line_is = ap (λ (w : Walk). line_of (given_by served name w)) is;
+      place_is = ap (λ (w : Walk). place_of (given_by served name w)) is;
+      path_is = ap (λ (w : Walk). path_of (given_by served name w)) is;
+    }
+served_given name (File db) at (Some file) path a b c d e p =
+    let is = served_walked (File db) at (Some file) path a (b ∷ c ∷ d ∷ e ∷ []) p in
+    record {
+      line_is = ap (λ (w : Walk). line_of (given_by served name w)) is;
+      place_is = ap (λ (w : Walk). place_of (given_by served name w)) is;
+      path_is = ap (λ (w : Walk). path_of (given_by served name w)) is;
+    }
 
--- ---- the words of a command, with those of its place behind the first
+-- ---- the words of a command, with those of its options behind the first
 
--- `clap` takes the words, and reads them as this line at this place
-pub record AreTakenAs (words line : List Text) (place : Place) : Type 0 where
+-- `clap` takes the words, and reads them as this line at this place, with this file of a cache
+pub record AreTakenAs (words line : List Text) (place : Place) (warm : Option Text) : Type 0 where
   pub taken : fault_of program words ≡ []
-  pub line_is : line_of (subcommand_of program words) ≡ line
-  pub place_is : place_of (subcommand_of program words) ≡ place
+  pub given : IsGiven line place warm (subcommand_of program words)
 
 -- what the program makes of a first word and the fault behind it
 abbrev above : List Text → Kinds → Kinds
 above words below = level_fault (built program).top (names_of (built program)) nothing_held words true below
 
-abbrev TakesFive : Text → Place → Text → Text → Text → Text → Text → Type 0
-TakesFive name place a b c d e =
-    AreTakenAs (name ∷ (place_words place ++ a ∷ b ∷ c ∷ d ∷ e ∷ [])) (name ∷ a ∷ b ∷ c ∷ d ∷ e ∷ []) place
+abbrev TakesFive : Text → Place → Option Text → Text → Text → Text → Text → Text → Type 0
+TakesFive name place warm a b c d e =
+    AreTakenAs (name ∷ (place_words place ++ (warm_words warm ++ a ∷ b ∷ c ∷ d ∷ e ∷ []))) (name ∷ a ∷ b ∷ c ∷ d ∷ e ∷ []) place warm
 
-pub work_taken : (place : Place) → HasPlainPath place → (a b c d e : Text) → ArePlain (a ∷ b ∷ c ∷ d ∷ e ∷ []) → TakesFive (codes "work") place a b c d e
+pub work_taken : (place : Place) → HasPlainPath place → (a b c d e : Text) → ArePlain (a ∷ b ∷ c ∷ d ∷ e ∷ [])
+    → TakesFive (codes "work") place None a b c d e
 unfolding clap_on_literals
 work_taken Fresh at a b c d e p = record {
   taken = ap (above (codes "work" ∷ a ∷ b ∷ c ∷ d ∷ e ∷ [])) (leaf_faultless (codes "work") Fresh at a b c d e p);
-  line_is = leaf_line (codes "work") Fresh at a b c d e p;
-  place_is = leaf_place (codes "work") Fresh at a b c d e p;
+  given = leaf_given (codes "work") Fresh at a b c d e p;
 }
 work_taken (File path) at a b c d e p = record {
   taken = ap (above (codes "work" ∷ codes "--db" ∷ path ∷ a ∷ b ∷ c ∷ d ∷ e ∷ [])) (leaf_faultless (codes "work") (File path) at a b c d e p);
-  line_is = leaf_line (codes "work") (File path) at a b c d e p;
-  place_is = leaf_place (codes "work") (File path) at a b c d e p;
+  given = leaf_given (codes "work") (File path) at a b c d e p;
 }
 
-pub serve_taken : (place : Place) → HasPlainPath place → (a b c d e : Text) → ArePlain (a ∷ b ∷ c ∷ d ∷ e ∷ []) → TakesFive (codes "serve") place a b c d e
-unfolding clap_on_literals
-serve_taken Fresh at a b c d e p = record {
-  taken = ap (above (codes "serve" ∷ a ∷ b ∷ c ∷ d ∷ e ∷ [])) (leaf_faultless (codes "serve") Fresh at a b c d e p);
-  line_is = leaf_line (codes "serve") Fresh at a b c d e p;
-  place_is = leaf_place (codes "serve") Fresh at a b c d e p;
-}
-serve_taken (File path) at a b c d e p = record {
-  taken = ap (above (codes "serve" ∷ codes "--db" ∷ path ∷ a ∷ b ∷ c ∷ d ∷ e ∷ [])) (leaf_faultless (codes "serve") (File path) at a b c d e p);
-  line_is = leaf_line (codes "serve") (File path) at a b c d e p;
-  place_is = leaf_place (codes "serve") (File path) at a b c d e p;
-}
-
-pub warm_taken : (place : Place) → HasPlainPath place → (a b c d e : Text) → ArePlain (a ∷ b ∷ c ∷ d ∷ e ∷ []) → TakesFive (codes "warm") place a b c d e
+pub warm_taken : (place : Place) → HasPlainPath place → (a b c d e : Text) → ArePlain (a ∷ b ∷ c ∷ d ∷ e ∷ [])
+    → TakesFive (codes "warm") place None a b c d e
 unfolding clap_on_literals
 warm_taken Fresh at a b c d e p = record {
   taken = ap (above (codes "warm" ∷ a ∷ b ∷ c ∷ d ∷ e ∷ [])) (leaf_faultless (codes "warm") Fresh at a b c d e p);
-  line_is = leaf_line (codes "warm") Fresh at a b c d e p;
-  place_is = leaf_place (codes "warm") Fresh at a b c d e p;
+  given = leaf_given (codes "warm") Fresh at a b c d e p;
 }
 warm_taken (File path) at a b c d e p = record {
   taken = ap (above (codes "warm" ∷ codes "--db" ∷ path ∷ a ∷ b ∷ c ∷ d ∷ e ∷ [])) (leaf_faultless (codes "warm") (File path) at a b c d e p);
-  line_is = leaf_line (codes "warm") (File path) at a b c d e p;
-  place_is = leaf_place (codes "warm") (File path) at a b c d e p;
+  given = leaf_given (codes "warm") (File path) at a b c d e p;
+}
+
+pub serve_taken : (place : Place) → HasPlainPath place → (warm : Option Text) → IsPlainPath warm
+    → (a b c d e : Text) → ArePlain (a ∷ b ∷ c ∷ d ∷ e ∷ []) → TakesFive (codes "serve") place warm a b c d e
+unfolding clap_on_literals
+serve_taken Fresh at None path a b c d e p = record {
+  taken = ap (above (codes "serve" ∷ a ∷ b ∷ c ∷ d ∷ e ∷ []))
+      (served_leaf_faultless (codes "serve") Fresh at None path a b c d e p);
+  given = served_given (codes "serve") Fresh at None path a b c d e p;
+}
+serve_taken Fresh at (Some file) path a b c d e p = record {
+  taken = ap (above (codes "serve" ∷ codes "--warm" ∷ file ∷ a ∷ b ∷ c ∷ d ∷ e ∷ []))
+      (served_leaf_faultless (codes "serve") Fresh at (Some file) path a b c d e p);
+  given = served_given (codes "serve") Fresh at (Some file) path a b c d e p;
+}
+serve_taken (File db) at None path a b c d e p = record {
+  taken = ap (above (codes "serve" ∷ codes "--db" ∷ db ∷ a ∷ b ∷ c ∷ d ∷ e ∷ []))
+      (served_leaf_faultless (codes "serve") (File db) at None path a b c d e p);
+  given = served_given (codes "serve") (File db) at None path a b c d e p;
+}
+serve_taken (File db) at (Some file) path a b c d e p = record {
+  taken = ap (above (codes "serve" ∷ codes "--db" ∷ db ∷ codes "--warm" ∷ file ∷ a ∷ b ∷ c ∷ d ∷ e ∷ []))
+      (served_leaf_faultless (codes "serve") (File db) at (Some file) path a b c d e p);
+  given = served_given (codes "serve") (File db) at (Some file) path a b c d e p;
 }
 
 -- ---- no values
@@ -323,12 +544,16 @@ bare_faultless name place at = place_faultless bare name place at []
 abbrev bare_given : Walk → Option (Text × List Row)
 bare_given w = Some (codes "replay", finished (ruled bare) w.held)
 
-pub replay_taken : (place : Place) → HasPlainPath place → AreTakenAs (codes "replay" ∷ (place_words place ++ [])) (codes "replay" ∷ []) place
+pub replay_taken : (place : Place) → HasPlainPath place
+    → AreTakenAs (codes "replay" ∷ (place_words place ++ [])) (codes "replay" ∷ []) place None
 unfolding clap_on_literals
-replay_taken Fresh at = record { taken = refl; line_is = refl; place_is = refl }
+replay_taken Fresh at = record { taken = refl; given = record { line_is = refl; place_is = refl; path_is = refl } }
 replay_taken (File path) at = record {
   taken = ap (above (codes "replay" ∷ codes "--db" ∷ path ∷ []))
       (ap₂ (ended bare (codes "replay")) (bare_faultless (codes "replay") (File path) at) (bare_walked (File path) at));
-  line_is = ap (λ (w : Walk). line_of (bare_given w)) (bare_walked (File path) at);
-  place_is = ap (λ (w : Walk). place_of (bare_given w)) (bare_walked (File path) at);
+  given = record {
+    line_is = ap (λ (w : Walk). line_of (bare_given w)) (bare_walked (File path) at);
+    place_is = ap (λ (w : Walk). place_of (bare_given w)) (bare_walked (File path) at);
+    path_is = ap (λ (w : Walk). path_of (bare_given w)) (bare_walked (File path) at);
+  };
 }

@@ -15,6 +15,10 @@ values_rule = record (new_rule (codes "values")) {
 abbrev pub db_rule : Rule
 db_rule = record (new_rule (codes "db")) { long = Some (codes "db"); value_names = 1 }
 
+-- The option `--warm` with one value.
+abbrev pub warm_rule : Rule
+warm_rule = record (new_rule (codes "warm")) { long = Some (codes "warm"); value_names = 1 }
+
 -- A command that may name a file.
 abbrev pub with_db : List ℕ → App
 with_db name = with_rule (new_app name) db_rule
@@ -22,6 +26,10 @@ with_db name = with_rule (new_app name) db_rule
 -- A command that may name a file, with five values.
 abbrev pub with_values : List ℕ → Shape
 with_values name = (with_rule (with_db name) values_rule).top
+
+-- The command that serves. It may also name the file of its cache.
+abbrev pub serving : Shape
+serving = (with_rule (with_rule (with_db (codes "serve")) warm_rule) values_rule).top
 
 -- The program without a command. The words begin behind its name, and it wants one of its commands.
 abbrev pub alone : App
@@ -31,5 +39,5 @@ alone = on_top (λ s. record s { no_binary_name = true; has_version = true; subc
 abbrev pub program : App
 program =
     with_subcommand
-    (with_subcommand (with_subcommand (with_subcommand alone (with_db (codes "replay")).top) (with_values (codes "work"))) (with_values (codes "serve")))
+    (with_subcommand (with_subcommand (with_subcommand alone (with_db (codes "replay")).top) (with_values (codes "work"))) serving)
     (with_values (codes "warm"))

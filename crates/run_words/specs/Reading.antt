@@ -11,7 +11,7 @@ use Rattle.run_words.specs.declared.words.Words.TheVariants.{Page}
 use Rattle.run_words.specs.declared.words.WordsFault.{WordsFault}
 use Rattle.run_words.specs.declared.words.WordsFault.TheVariants as fault
 use Rattle.run_words.specs.Program.{program}
-use Rattle.run_words.specs.Words.{AreCommand, CanBeNamed}
+use Rattle.run_words.specs.Words.{AreCommand, CanBeNamed, warm_path}
 
 -- The name of a subcommand and the values behind it.
 abbrev pub line_of : Option (Text × List Row) → List Text
@@ -28,10 +28,16 @@ abbrev pub place_of : Option (Text × List Row) → Place
 place_of None = Fresh
 place_of (Some found) = place_in (first_of (codes "db") found.1)
 
--- The subcommand, with its values and the place that it is given, is the command.
+-- The path of the file of a cache that a subcommand is given, by the option `--warm`.
+abbrev pub path_of : Option (Text × List Row) → Option Text
+path_of None = None
+path_of (Some found) = first_of (codes "warm") found.1
+
+-- The subcommand is the command, with its values, the place and the file of a cache that it is given.
 pub record AreGiven (given : Option (Text × List Row)) (command : Words) : Type 0 where
   pub named : CanBeNamed (place_of given)
   pub are_command : AreCommand (line_of given) (place_of given) command
+  pub path : warm_path command ≡ path_of given
 
 -- `clap` takes the words, and what it reads of them is the command.
 pub record AreSaid (words : List Text) (command : Words) : Type 0 where

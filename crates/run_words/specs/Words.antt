@@ -1,5 +1,6 @@
 -- The words of the commands, as a table has them.
-use Rattle.std.specs.Prelude.{ℕ, ◌≡◌, ◌≢◌, ◌≤◌, List, [], ◌∷◌, ◌++◌, length, map, Option, Some, None, slice_get, codes, decimal}
+use Rattle.std.specs.Prelude.{ℕ, ◌≡◌, ◌≢◌, ◌≤◌, List, [], ◌∷◌, ◌++◌, length, map, Option, Some, None, IfSome, option_map, slice_get, codes, decimal}
+use Rattle.std.specs.Global.{Vec}
 use Rattle.std.specs.Str.{IsUtf8}
 use Rattle.run_inputs.specs.Parsing.{IsNumberWithin}
 use Rattle.run_inputs.specs.declared.loads.WorkSpec.{WorkSpec}
@@ -38,7 +39,11 @@ pub record AreConns (word : List ℕ) (conns : Conns) : Type 0 where
   pub written : word ≡ conns_word conns
   pub within : IsConns conns
 
--- What `serve` serves is within its ranges.
+-- The path of the file of a cache, where there is one.
+abbrev pub path_in : Option (Vec ℕ) → Option (List ℕ)
+path_in = option_map (λ path. path.items)
+
+-- What `serve` serves is within its ranges. The file of its cache can be named, and a server without an end has none.
 pub record IsServe (spec : ServeSpec) : Type 0 where
   pub address : IsPlainText spec.addr.items
   pub conns : IsConns spec.conns
@@ -48,13 +53,15 @@ pub record IsServe (spec : ServeSpec) : Type 0 where
   pub few_shards : spec.shards ≤ 64
   pub some_members : 1 ≤ spec.members
   pub few_members : spec.members ≤ 100000
+  pub warm : IfSome (path_in spec.warm) IsPlainText
+  pub ends : spec.conns ≡ Forever → spec.warm ≡ None
 
 -- The other numbers of what is served, in the order in which the words have them.
 abbrev pub numbers_served : ServeSpec → List ℕ
 numbers_served spec = spec.workers ∷ spec.shards ∷ spec.members ∷ []
 
--- The words are `serve`, the address, how many connections are served, and the other numbers in decimal, and all is within its
--- range.
+-- The words, without those that name the file of a cache, are `serve`, the address, how many connections are served, and the
+-- other numbers in decimal, and all is within its range.
 pub record AreServe (words : List (List ℕ)) (spec : ServeSpec) : Type 0 where
   pub written : words ≡ codes "serve" ∷ spec.addr.items ∷ conns_word spec.conns ∷ map decimal (numbers_served spec)
   pub fits : IsServe spec
@@ -82,12 +89,25 @@ abbrev pub CanBeNamed : Place → Type 0
 CanBeNamed Fresh = Unit {0}
 CanBeNamed (File path) = IsPlainText path
 
--- The words of a command, with those that name its place right behind the first.
-abbrev pub with_place : Place → List (List ℕ) → List (List ℕ)
-with_place place [] = []
-with_place place (first ∷ others) = first ∷ (place_words place ++ others)
+-- The words that name the file of a cache: none without one, and else `--warm` and its path.
+abbrev pub warm_words : Option (List ℕ) → List (List ℕ)
+warm_words None = []
+warm_words (Some path) = codes "--warm" ∷ path ∷ []
 
--- The words, without those that name this place, are the command's there.
+-- The path of the file of a command's cache. Only what is served has one.
+abbrev pub warm_path : Words → Option (List ℕ)
+warm_path (Replay at) = None
+warm_path (Work at spec) = None
+warm_path (Warm at spec) = None
+warm_path (Serve at spec) = path_in spec.warm
+warm_path (Page text) = None
+
+-- The words of a command, with those that name its place and the file of its cache right behind the first.
+abbrev pub with_options : Place → Option (List ℕ) → List (List ℕ) → List (List ℕ)
+with_options place warm [] = []
+with_options place warm (first ∷ others) = first ∷ (place_words place ++ (warm_words warm ++ others))
+
+-- The words, without those that name this place and the file of a cache, are the command's there.
 abbrev pub AreCommand : List (List ℕ) → Place → Words → Type 0
 AreCommand words place (Replay at) = (at ≡ place) × (words ≡ codes "replay" ∷ [])
 AreCommand words place (Work at spec) = (at ≡ place) × AreWork words spec
@@ -101,4 +121,4 @@ pub record AreWords (words : List (List ℕ)) (command : Words) : Type 0 where
   pub named : CanBeNamed place
   pub others : List (List ℕ)
   pub are_command : AreCommand others place command
-  pub written : words ≡ with_place place others
+  pub written : words ≡ with_options place (warm_path command) others

@@ -1,7 +1,7 @@
 // The program's command line, as `clap` is told of it.
 ghost use Rattle.std.specs.Prelude.{◌≡◌, IfOk, false};
 ghost use Rattle.clap.specs.Words.{app_of, rule_of};
-ghost use Rattle.run_words.specs.Program.{program, db_rule, values_rule};
+ghost use Rattle.run_words.specs.Program.{program, db_rule, values_rule, warm_rule};
 
 use clap::{Arg, Command};
 use std::alloc::{AllocError, Global};
@@ -27,6 +27,7 @@ pub(crate) fn program<'a>(alloc: Global) -> Result<Command<'a>, AllocError>
             "Serves connections on workers: so many, or any number where <conns> is the word forever",
         )
         .arg(db_path(alloc))?
+        .arg(warm_path(alloc))?
         .arg(five_values(alloc, &SERVE_VALUES))?;
     let warm = Command::new(alloc, "warm")
         .about(
@@ -54,6 +55,16 @@ fn db_path<'a>(alloc: Global) -> Arg<'a>
         .long("db")
         .value_name("path")
         .help("Keeps the rows in this SQLite file")
+}
+
+// The path of the file of a cache.
+fn warm_path<'a>(alloc: Global) -> Arg<'a>
+    ensures rule { rule_of result ≡ warm_rule }
+    ensures local { result.global ≡ false }
+{
+    Arg::new(alloc, "warm").long("warm").value_name("path").help(
+        "Takes the cache over from this file, and writes it there at the end",
+    )
 }
 
 // Five values, which help calls by these names.

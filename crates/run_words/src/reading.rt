@@ -1,5 +1,5 @@
 // How the words are read.
-ghost use Rattle.std.specs.Prelude.{◌≡◌, ◌≢◌, ◌↔◌, ◌≤◌, ◌∷◌, length, map, All, Some, Err, IfOk, IfSome, IfNone, IsTrue, MatchResult, slice_get, codes, option_map};
+ghost use Rattle.std.specs.Prelude.{◌≡◌, ◌≢◌, ◌↔◌, ◌≤◌, ℕ, List, ◌∷◌, length, map, All, Some, None, Err, IfOk, IfSome, IfNone, IsTrue, MatchResult, slice_get, codes, option_map};
 ghost use Rattle.std.specs.Str.{IsUtf8};
 ghost use Rattle.clap.specs.Words.{kind_of, subcommand_rows_of};
 ghost use Rattle.sql_keeper.specs.declared.keepers.Place.{Place};
@@ -8,7 +8,7 @@ ghost use Rattle.run_inputs.specs.Words.{AreWork};
 ghost use Rattle.run_words.specs.declared.words.Conns.{Conns};
 ghost use Rattle.run_words.specs.declared.words.ServeSpec.{ServeSpec};
 ghost use Rattle.run_words.specs.declared.words.Words.{Words};
-ghost use Rattle.run_words.specs.Words.{AreCommand, AreConns, AreServe, AreServeNumbers, AreWarm, AreWords, CanBeNamed};
+ghost use Rattle.run_words.specs.Words.{AreCommand, AreConns, AreServe, AreServeNumbers, AreWarm, AreWords, CanBeNamed, path_in, warm_path};
 ghost use Rattle.run_words.specs.Reading.{place_in, AreGiven, AreReadAs, AreSaid, IsRead, IsRefused, IsSaid};
 
 use crate::program::program;
@@ -108,7 +108,8 @@ fn text_by(alloc: Global, error: &Error) -> Result<Words, WordsFault>
     }
 }
 
-// The command that the subcommand is, with its values and the place that it names.
+// The command that the subcommand is, with its values, and with the place and the file of a cache
+// that it names.
 fn command_of(alloc: Global, matches: &ArgMatches<'_>) -> Result<Option<Words>, AllocError>
     ensures found { IfOk result (λ found. IfSome found
         (AreGiven (subcommand_rows_of matches.now))) }
@@ -122,7 +123,7 @@ fn command_of(alloc: Global, matches: &ArgMatches<'_>) -> Result<Option<Words>, 
         return Ok(None);
     };
     let values = inner.get_raw("values").unwrap_or(&[]);
-    command_named(alloc, name, values, place)
+    command_named(alloc, name, values, place, inner.get_str("warm"))
 }
 
 // The place that this path names, a fresh one without it, or none where it names none.
@@ -144,26 +145,32 @@ fn place_named(alloc: Global, path: Option<&str>) -> Result<Option<Place>, Alloc
     }))
 }
 
-// The command of this name at this place, with these values behind it.
+// The command of this name at this place, with these values behind it, and with the file of a cache
+// at this path.
 fn command_named(
     alloc: Global,
     name: &str,
     values: &[&str],
     place: Place,
+    warm: Option<&str>,
 ) -> Result<Option<Words>, AllocError>
     ensures found { IfOk result (λ found. IfSome found
         (AreCommand (name.now ∷ map (λ value. value.now) values.now) place)) }
+    ensures path { IfOk result (λ found. IfSome found (λ command.
+        warm_path command ≡ option_map (λ path. path.now) warm.entry)) }
     ensures none { IfOk result (λ found. IfNone found ((command : Words) →
-        AreCommand (name.now ∷ map (λ value. value.now) values.now) place command → ⊥)) }
+        AreCommand (name.now ∷ map (λ value. value.now) values.now) place command →
+        warm_path command ≡ option_map (λ path. path.now) warm.entry → ⊥)) }
 {
     match name {
+        "serve" => match serve_of(alloc, values, warm)? {
+            Some(spec) => Ok(Some(Words::Serve { place, spec })),
+            None => Ok(None),
+        },
+        _ if warm.is_some() => Ok(None),
         "replay" if values.is_empty() => Ok(Some(Words::Replay { place })),
         "work" => match work_of(alloc, values)? {
             Some(spec) => Ok(Some(Words::Work { place, spec })),
-            None => Ok(None),
-        },
-        "serve" => match serve_of(alloc, values)? {
-            Some(spec) => Ok(Some(Words::Serve { place, spec })),
             None => Ok(None),
         },
         "warm" => match warm_of(alloc, values)? {
@@ -199,10 +206,60 @@ fn warm_of(alloc: Global, values: &[&str]) -> Result<Option<WorkSpec>, AllocErro
     work_of(alloc, values)
 }
 
-// What is served, where these are the address and the numbers.
-fn serve_of(alloc: Global, values: &[&str]) -> Result<Option<ServeSpec>, AllocError>
+// What is served, where these are the address and the numbers, with the file of a cache at this
+// path.
+fn serve_of(
+    alloc: Global,
+    values: &[&str],
+    warm: Option<&str>,
+) -> Result<Option<ServeSpec>, AllocError>
     ensures found { IfOk result (λ found. IfSome found
         (AreServe (codes "serve" ∷ map (λ value. value.now) values.now))) }
+    ensures path { IfOk result (λ found. IfSome found (λ spec.
+        path_in spec.warm ≡ option_map (λ path. path.now) warm.entry)) }
+    ensures none { IfOk result (λ found. IfNone found ((spec : ServeSpec) →
+        AreServe (codes "serve" ∷ map (λ value. value.now) values.now) spec →
+        path_in spec.warm ≡ option_map (λ path. path.now) warm.entry → ⊥)) }
+{
+    let Some(spec) = cold_of(alloc, values)? else {
+        return Ok(None);
+    };
+    match warm {
+        Some(path) => with_file(alloc, spec, path),
+        None => Ok(Some(spec)),
+    }
+}
+
+// The same with the file of a cache at this path, or none where a server without an end would have
+// one, or where the path can't be named.
+fn with_file(
+    alloc: Global,
+    mut spec: ServeSpec,
+    path: &str,
+) -> Result<Option<ServeSpec>, AllocError>
+    ensures found { IfOk result (λ found. IfSome found (λ made. (words : List (List ℕ)) →
+        AreServe words spec → AreServe words made)) }
+    ensures path { IfOk result (λ found. IfSome found (λ made.
+        path_in made.warm ≡ Some path.now)) }
+    ensures none { IfOk result (λ found. IfNone found ((words : List (List ℕ)) →
+        AreServe words spec → (other : ServeSpec) → AreServe words other →
+        path_in other.warm ≡ Some path.now → ⊥)) }
+{
+    if !is_plain_text(path.as_bytes()) {
+        return Ok(None);
+    }
+    let Some(_) = spec.conns.most() else {
+        return Ok(None);
+    };
+    spec.warm = Some(Vec::from_slice(alloc, path.as_bytes())?);
+    Ok(Some(spec))
+}
+
+// What is served without the file of a cache, where these are the address and the numbers.
+fn cold_of(alloc: Global, values: &[&str]) -> Result<Option<ServeSpec>, AllocError>
+    ensures found { IfOk result (λ found. IfSome found
+        (AreServe (codes "serve" ∷ map (λ value. value.now) values.now))) }
+    ensures cold { IfOk result (λ found. IfSome found (λ spec. spec.warm ≡ None)) }
     ensures none { IfOk result (λ found. IfNone found ((spec : ServeSpec) →
         AreServe (codes "serve" ∷ map (λ value. value.now) values.now) spec → ⊥)) }
 {
@@ -235,6 +292,7 @@ fn spec_of(
     members: &str,
 ) -> Option<ServeSpec>
     ensures addr { IfSome result (λ spec. spec.addr ≡ addr) }
+    ensures cold { IfSome result (λ spec. spec.warm ≡ None) }
     ensures found { IfSome result
         (λ spec. AreServeNumbers conns.now workers.now shards.now members.now spec) }
     ensures none { IfNone result ((spec : ServeSpec) →
@@ -246,6 +304,7 @@ fn spec_of(
         workers: number_within(workers.as_bytes(), 1, 1_024)?,
         shards: number_within(shards.as_bytes(), 1, 64)?,
         members: number_within(members.as_bytes(), 1, 100_000)?,
+        warm: None,
     })
 }
 

@@ -39,6 +39,10 @@ pub struct ServeSpec {
     pub shards: u32,
     /// How many members the opening rows have, from 1 to 100,000.
     pub members: u32,
+    /// The path of the file from which the server takes its cache over when it starts, and to which
+    /// it writes it when it ends: UTF-8 text that isn't empty and doesn't begin with `-`. `None`
+    /// where it does neither, as it has to be where no number of connections ends the server.
+    pub warm: Option<Vec<u8>>,
 }
 
 /// What the words ask for, and where the rows lie for it: in the file that `--db` names, or at a fresh

@@ -1,5 +1,5 @@
 // What a user concludes from the contracts alone, of runs, sessions, stores and shards.
-use crate::outsides::{Outside, keeper, outside_of, shut_door, still_clock, words_of};
+use crate::outsides::{Outside, keeper, no_file, outside_of, shut_door, still_clock, words_of};
 use callers::{quits, runs, shards, stores};
 use iq_outside::{ListDoor, MemLine, MemSink, MemSource, OpenGate};
 use key_shard::{Got, SetAnswer, Shard};
@@ -93,6 +93,7 @@ fn is_refused(
     outside: &mut Outside,
 ) -> Result<bool, Fail> {
     let mut door = shut_door(alloc)?;
+    let mut file = no_file(alloc)?;
     let clock = still_clock(alloc)?;
     let end = runs::run_refused(
         rt,
@@ -101,6 +102,7 @@ fn is_refused(
         &mut outside.source,
         &mut outside.sink,
         keeper(alloc),
+        &mut file,
         &mut door,
         &clock,
         &OpenGate,
@@ -154,6 +156,7 @@ fn serves_without_ends(
     words: &str,
 ) -> Result<bool, Fail> {
     let words = words_of(alloc, words)?;
+    let mut file = no_file(alloc)?;
     let clock = still_clock(alloc)?;
     let end = runs::run_server(
         rt,
@@ -162,6 +165,7 @@ fn serves_without_ends(
         &mut outside.source,
         &mut outside.sink,
         keeper(alloc),
+        &mut file,
         door,
         &clock,
         &OpenGate,
@@ -185,6 +189,7 @@ fn loads_two_shards(
 ) -> Result<bool, Fail> {
     let words = words_of(alloc, "work 3 40 2 2 1")?;
     let mut door = shut_door(alloc)?;
+    let mut file = no_file(alloc)?;
     let clock = still_clock(alloc)?;
     let end = runs::run_load(
         rt,
@@ -193,6 +198,7 @@ fn loads_two_shards(
         &mut outside.source,
         &mut outside.sink,
         keeper(alloc),
+        &mut file,
         &mut door,
         &clock,
         &OpenGate,

@@ -1,4 +1,5 @@
-//! Tests what files can't hold of whole runs: loads on many threads, a server over TCP, and what callers conclude.
+//! Tests what files can't hold of whole runs: loads on many threads, a server over TCP, servers
+//! whose cache has a file, and what callers conclude.
 #![tactic(auto)]
 
 #[cfg(test)]
@@ -11,3 +12,5 @@ mod outsides;
 mod servers;
 #[cfg(test)]
 mod two_loads;
+#[cfg(test)]
+mod warm_servers;

@@ -1,4 +1,5 @@
 // What is outside of a run, in memory.
+use cache_file::MemFile;
 use iq_outside::{ListClock, ListDoor, MemSink, MemSource, OpenGate};
 use sql_keeper::MapKeeper;
 use std::alloc::Global;
@@ -55,6 +56,12 @@ pub(crate) fn shut_door(alloc: Global) -> Result<ListDoor, Fail> {
     Ok(ListDoor::new(alloc, Vec::new(alloc), Vec::new(alloc))?)
 }
 
+/// The file of a cache, at the path `cache`, which isn't there. It never fails.
+pub(crate) fn no_file(alloc: Global) -> Result<MemFile, Fail> {
+    let path = Vec::from_slice(alloc, b"cache")?;
+    Ok(MemFile::new(path, None, Vec::new(alloc)))
+}
+
 /// A clock that stands still.
 pub(crate) fn still_clock(alloc: Global) -> Result<ListClock, Fail> {
     let mut times = Vec::new(alloc);
@@ -71,6 +78,7 @@ pub(crate) fn run_alone(
 ) -> Result<RunEnd<MapKeeper>, Fail> {
     let words = words_of(alloc, words)?;
     let mut door = shut_door(alloc)?;
+    let mut file = no_file(alloc)?;
     let clock = still_clock(alloc)?;
     Ok(run(
         rt,
@@ -79,6 +87,7 @@ pub(crate) fn run_alone(
         &mut outside.source,
         &mut outside.sink,
         keeper(alloc),
+        &mut file,
         &mut door,
         &clock,
         &OpenGate,

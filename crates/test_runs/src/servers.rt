@@ -1,5 +1,5 @@
 // A server that is run through the top call, over TCP on the loopback.
-use crate::outsides::{keeper, still_clock, unread_outside, words_of};
+use crate::outsides::{keeper, no_file, still_clock, unread_outside, words_of};
 use conn_server::LineEnd;
 use iq_outside::{Door, Failed, OpenGate, TcpDoor};
 use std::alloc::Global;
@@ -59,6 +59,7 @@ fn serves_one<
     let words = words_of(alloc, words.as_str())?;
     let mut door = TcpDoor::new(rt);
     let mut outside = unread_outside(alloc)?;
+    let mut file = no_file(alloc)?;
     let clock = still_clock(alloc)?;
     let end = run(
         rt,
@@ -67,6 +68,7 @@ fn serves_one<
         &mut outside.source,
         &mut outside.sink,
         keeper(alloc),
+        &mut file,
         &mut door,
         &clock,
         &OpenGate,

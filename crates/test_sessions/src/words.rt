@@ -25,6 +25,17 @@ fn place_text(alloc: Global, place: &Place) -> Result<String, AllocError> {
     }
 }
 
+// The words that name the file of a cache, behind a space.
+fn warm_text(alloc: Global, warm: &Option<Vec<u8>>) -> Result<String, AllocError> {
+    match warm {
+        None => Ok(String::new(alloc)),
+        Some(path) => format!(in alloc;
+            " --warm {}",
+            String::from_utf8_lossy(alloc, path.as_slice())?
+        ),
+    }
+}
+
 // The word for how many connections are served.
 fn conns_text(alloc: Global, conns: Conns) -> Result<String, AllocError> {
     match conns {
@@ -51,16 +62,17 @@ fn load_text(
     )
 }
 
-// What is read of words, as one line: the command with its place and its numbers, the first line of a
-// text, or the fault.
+// What is read of words, as one line: the command with its place, the file of its cache and its
+// numbers, the text, or the fault.
 fn words_text(alloc: Global, words: &[Vec<u8>]) -> Result<String, AllocError> {
     match read_words(alloc, words) {
         Ok(Words::Replay { place }) => format!(in alloc; "replay{}", place_text(alloc, &place)?),
         Ok(Words::Work { place, spec }) => load_text(alloc, "work", &place, &spec),
         Ok(Words::Warm { place, spec }) => load_text(alloc, "warm", &place, &spec),
         Ok(Words::Serve { place, spec }) => format!(in alloc;
-            "serve{} {} {} {} {} {}",
+            "serve{}{} {} {} {} {} {}",
             place_text(alloc, &place)?,
+            warm_text(alloc, &spec.warm)?,
             String::from_utf8_lossy(alloc, spec.addr.as_slice())?,
             conns_text(alloc, spec.conns)?,
             spec.workers,
@@ -89,7 +101,7 @@ fn reads(rt: &impl Abort, alloc: Global, line: &str, want: &str) {
 }
 
 /// Lines that are read as they stand.
-const COMMANDS: [&str; 17] = [
+const COMMANDS: [&str; 19] = [
     "replay",
     "work 1 0 1 1 0",
     "work 100000 500000 1024 64 18446744073709551615",
@@ -107,6 +119,8 @@ const COMMANDS: [&str; 17] = [
     "warm --db a.db 3 10 2 1 7",
     "serve --db /a.db a:1 1 2 3 4",
     "serve --db serve serve 1 2 3 4",
+    "serve --warm c.iq a:1 1 2 3 4",
+    "serve --db a.db --warm data/é.iq a:1 1 2 3 4",
 ];
 
 #[test]
@@ -117,7 +131,7 @@ fn commands_are_read_as_they_stand(rt: HostRuntime) {
 }
 
 /// Lines that are no command's.
-const NONE: [&str; 59] = [
+const NONE: [&str; 69] = [
     "",
     "play",
     "Replay",
@@ -177,6 +191,16 @@ const NONE: [&str; 59] = [
     "work --db 3 10 2 1 7",
     "work 3 10 --db a.db 2 1 7",
     "serve a:1 1 2 3 4 --db",
+    "serve --warm c.iq a:1 forever 2 3 4",
+    "serve --warm  a:1 1 2 3 4",
+    "serve --warm= a:1 1 2 3 4",
+    "serve --warm -c a:1 1 2 3 4",
+    "serve --warm=-c a:1 1 2 3 4",
+    "serve --warm c.iq --warm c.iq a:1 1 2 3 4",
+    "serve a:1 1 2 3 4 --warm",
+    "work --warm c.iq 3 10 2 1 7",
+    "warm --warm c.iq 3 10 2 1 7",
+    "replay --warm c.iq",
 ];
 
 #[test]
@@ -208,8 +232,8 @@ fn other_words_are_no_commands(rt: HostRuntime) -> Result<(), Fail> {
     Ok(())
 }
 
-/// Lines with two hyphens, or with a place that stands elsewhere, and what is read of them.
-const HYPHENS: [(&str, &str); 9] = [
+/// Lines with two hyphens, or with options that stand elsewhere, and what is read of them.
+const HYPHENS: [(&str, &str); 12] = [
     ("replay --", "replay"),
     ("work -- 3 10 2 1 7", "work 3 10 2 1 7"),
     ("work 3 10 -- 2 1 7", "work 3 10 2 1 7"),
@@ -219,17 +243,29 @@ const HYPHENS: [(&str, &str); 9] = [
     ("work --db a=b -- 3 10 2 1 7", "work --db a=b 3 10 2 1 7"),
     ("work 3 10 2 1 7 --db a.db", "work --db a.db 3 10 2 1 7"),
     ("serve a:1 1 2 3 4 --db=a.db", "serve --db a.db a:1 1 2 3 4"),
+    (
+        "serve --warm c.iq --db a.db a:1 1 2 3 4",
+        "serve --db a.db --warm c.iq a:1 1 2 3 4",
+    ),
+    (
+        "serve --db a.db a:1 1 2 3 4 --warm c.iq",
+        "serve --db a.db --warm c.iq a:1 1 2 3 4",
+    ),
+    (
+        "serve --warm=c.iq a:1 1 2 3 4",
+        "serve --warm c.iq a:1 1 2 3 4",
+    ),
 ];
 
 #[test]
-fn two_hyphens_are_passed_over_and_a_place_stands_anywhere(rt: HostRuntime) {
+fn two_hyphens_are_passed_over_and_options_stand_anywhere(rt: HostRuntime) {
     for (line, want) in HYPHENS.iter() {
         reads(&rt, rt.alloc(), line, want);
     }
 }
 
 /// Lines that ask for a text, and what stands in it.
-const TEXTS: [(&str, &str); 6] = [
+const TEXTS: [(&str, &str); 7] = [
     ("--help", "Usage: iq <COMMAND>"),
     ("-h", "Usage: iq <COMMAND>"),
     ("help", "Usage: iq <COMMAND>"),
@@ -239,6 +275,10 @@ const TEXTS: [(&str, &str); 6] = [
     ),
     ("replay --help", "--db <path>"),
     ("help serve", "<addr> <conns> <workers> <shards> <members>"),
+    (
+        "serve --help",
+        "      --db <path>    Keeps the rows in this SQLite file\n      --warm <path>  Takes the cache over from this file, and writes it there at the end\n",
+    ),
 ];
 
 /// A text is told, and this stands in it.

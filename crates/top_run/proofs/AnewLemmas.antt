@@ -1,6 +1,6 @@
 -- The hub of a second load: loaded shards beside a store that was made anew.
-use Rattle.std.proofs.Common.{ℕ, ◌≡◌, ◌≤◌, ◌<◌, ◌^◌, ◌-◌, List, [], ◌∷◌, ◌++◌, All, length, map, reverse, get_or, refl, sym, ap, subst, ◌∙◌, arith}
-use Rattle.std.specs.Prelude.{Option, Some, None, is_none, slice_get, option_map, unwrap_or, vec_capacity}
+use Rattle.std.proofs.Common.{ℕ, ◌≡◌, ◌<◌, List, [], ◌++◌, All, length, reverse, get_or, refl, sym, ap, subst, ◌∙◌, arith}
+use Rattle.std.specs.Prelude.{Option, Some, None, is_none, slice_get, option_map, unwrap_or}
 use Rattle.std.specs.List.{AllByRecursion}
 use Rattle.std.proofs.lemmas.List.{reverse-append, reverse-reverse}
 use Rattle.std.proofs.lemmas.List.Elements.{All-get_or}
@@ -11,26 +11,23 @@ use Rattle.key_shard.specs.Past.{Terms}
 use Rattle.key_shard.specs.Shards.{ShardView, past_of}
 use Rattle.key_freshness.proofs.KnownLemmas.{stands-within}
 use Rattle.sql_keeper.specs.Stores.{StoreView}
-use Rattle.log_word.specs.Passes.{WordView, blind_pass, blind_shard_passes}
+use Rattle.log_word.specs.Passes.{WordView}
 use Rattle.shard_lock.specs.Names.{AreAll, AreLegal, IsNamed}
 use Rattle.bound_hub.specs.Ties.{IsNewShard, IsNewStore}
 use Rattle.shard_dump.specs.declared.rows.DumpRow.{DumpRow}
 use Rattle.shard_dump.specs.Loads.{loaded_steps}
-use Rattle.run_inputs.specs.declared.loads.WorkSpec.{WorkSpec}
+use Rattle.session_client.specs.declared.plans.Shape.{Shape}
 use Rattle.top_run.specs.declared.hubs.HubParts.{HubParts}
 use Rattle.top_run.specs.declared.dumps.Dumped.{Dumped}
-use Rattle.top_run.specs.declared.works.Ready.{Ready}
-use Rattle.top_run.specs.Ready.{MakeHub}
-use Rattle.top_run.specs.Works.{hub_terms, work_shape}
 use Rattle.top_run.specs.Warms.{BeginsLoaded}
-use Rattle.top_run.specs.Warming.{AreLoaded, GoesOn, IsAnew, IsLoadedWith, IsReadyAnew, LoadsOnly, NamesAnew, before_of}
+use Rattle.top_run.specs.Warming.{AreLoaded, GoesOn, IsAnew, IsLoadedWith, LoadsOnly, NamesAnew, before_of}
 use Rattle.top_run.proofs.WarmingLemmas.{loaded_is_new, loaded_only}
 
 -- a store that was made anew is as it is named
-pub new_store : (spec : WorkSpec) (store : StoreView) (count start : Option ℕ) (terms : ℕ → Terms) (opening : Tables) (cap : ℕ) (known_rows : Option Tables)
+pub new_store : (shape : Shape) (keep : Option ℕ) (store : StoreView) (count start : Option ℕ) (terms : ℕ → Terms) (opening : Tables) (cap : ℕ) (known_rows : Option Tables)
     (name parts : ℕ) (word : WordView) (before : ℕ → List Step) (begun failed : ℕ) (made : HubParts) → IsAnew store
-    → NamesAnew spec store count start terms opening cap known_rows name parts word before begun failed made → IsNewStore begun failed store
-new_store spec store count start terms opening cap known_rows name parts word before begun failed made anew names = record {
+    → NamesAnew shape keep store count start terms opening cap known_rows name parts word before begun failed made → IsNewStore begun failed store
+new_store shape keep store count start terms opening cap known_rows name parts word before begun failed made anew names = record {
   none = anew.no_log;
   begun_is = sym names.begun_is;
   closed = anew.none_open;

@@ -21,14 +21,24 @@ use Rattle.door_workers.specs.Ends.{AreHandedBack, AreServed}
 use Rattle.run_words.specs.declared.words.Conns.{Conns}
 use Rattle.run_words.proofs.WordLemmas.{one_conns}
 use Rattle.top_run.specs.declared.runs.Phase.{Phase}
-use Rattle.top_run.specs.Commands.{AreEarlier, AreLines, AreNoCommand, IsUnread, IsReading, IsRefused, EndedAs, CommandEnded, LeavesEarlier, LinesEnded}
+use Rattle.top_run.specs.Commands.{AreEarlier, AreLines, AreNoCommand, AreSaved, IsUnread, IsReading, IsRefused, EndedAs, CommandEnded, IsTextPart, IsTextPrinted, LeavesEarlier, LinesEnded, SavedAs}
 use Rattle.top_run.specs.Warms.{HasStoppedFirst, WarmEnded, first_of, nothing_left}
 use Rattle.top_run.specs.Runs.{Held, Tells, Left, IsNotStarted, IsUnasked, Ended, most_taken, is_door_fault}
-use Rattle.top_run.specs.Serves.{Course, ServeEnded}
-use Rattle.run_words.specs.Words.{AreServe, AreWarm, AreWords, most_served, with_place}
+use Rattle.top_run.specs.Serves.{Course, ServeEnded, serve_keep, serve_shape}
+use Rattle.run_words.specs.Words.{AreServe, AreWarm, AreWords, most_served, path_in, warm_path, with_options}
 use Rattle.run_words.specs.Reading.{AreReadAs, IsRead}
 use Rattle.top_run.specs.Works.{WorkEnded}
-use Rattle.top_run.proofs.ServeLemmas.{AreSame, same_server}
+use Rattle.std.specs.Prelude.{Vec}
+use Rattle.std.specs.Global.{Global}
+use Rattle.std.specs.Option.{ForSome}
+use Rattle.rows_model.specs.Rows.{Tables}
+use Rattle.session_client.specs.declared.plans.Shape.{Shape}
+use Rattle.cache_file.specs.Files.{SameElsewhere, SameTexts}
+use Rattle.cache_file.specs.Texts.{AreDumps}
+use Rattle.top_run.specs.Saves.{Files, IsDumpedOf, IsSavedText, SavesAt}
+use Rattle.top_run.specs.Works.{hub_terms}
+use Rattle.top_run.proofs.SaveLemmas.{is_done, unsaved_at}
+use Rattle.top_run.proofs.ServeLemmas.{AreSame, same_server, same_shape}
 
 -- ---- what words that are a command's, word for word, are read as
 
@@ -44,20 +54,20 @@ first_word (words.Warm at spec) = codes "warm"
 first_word (words.Serve at spec) = codes "serve"
 first_word (words.Page text) = []
 
-stays_first : (place : Place) (others : List (List ℕ)) → get_or (with_place place others) 0 [] ≡ get_or others 0 []
-stays_first place [] = refl
-stays_first place (first ∷ others) = refl
+stays_first : (place : Place) (warm : Option (List ℕ)) (others : List (List ℕ)) → get_or (with_options place warm others) 0 [] ≡ get_or others 0 []
+stays_first place warm [] = refl
+stays_first place warm (first ∷ others) = refl
 
-begins_with : (spoken others : List (List ℕ)) (place : Place) (first : List ℕ) (values : List (List ℕ))
-    → spoken ≡ with_place place others → others ≡ first ∷ values → get_or spoken 0 [] ≡ first
-begins_with spoken others place first values written is =
-    ap (λ (ws : List (List ℕ)). get_or ws 0 []) written ∙ stays_first place others ∙ ap (λ (ws : List (List ℕ)). get_or ws 0 []) is
+begins_with : (spoken others : List (List ℕ)) (place : Place) (warm : Option (List ℕ)) (first : List ℕ) (values : List (List ℕ))
+    → spoken ≡ with_options place warm others → others ≡ first ∷ values → get_or spoken 0 [] ≡ first
+begins_with spoken others place warm first values written is =
+    ap (λ (ws : List (List ℕ)). get_or ws 0 []) written ∙ stays_first place warm others ∙ ap (λ (ws : List (List ℕ)). get_or ws 0 []) is
 
 is_first : (spoken : List (List ℕ)) (command : Words) → AreWords spoken command → get_or spoken 0 [] ≡ first_word command
-is_first spoken (words.Replay at) h = begins_with spoken h.others h.place _ _ h.written h.are_command.1
-is_first spoken (words.Work at spec) h = begins_with spoken h.others h.place _ _ h.written h.are_command.1.written
-is_first spoken (words.Warm at spec) h = begins_with spoken h.others h.place _ _ h.written h.are_command.1.written
-is_first spoken (words.Serve at spec) h = begins_with spoken h.others h.place _ _ h.written h.are_command.1.written
+is_first spoken (words.Replay at) h = begins_with spoken h.others h.place (warm_path (words.Replay at)) _ _ h.written h.are_command.1
+is_first spoken (words.Work at spec) h = begins_with spoken h.others h.place (warm_path (words.Work at spec)) _ _ h.written h.are_command.1.written
+is_first spoken (words.Warm at spec) h = begins_with spoken h.others h.place (warm_path (words.Warm at spec)) _ _ h.written h.are_command.1.written
+is_first spoken (words.Serve at spec) h = begins_with spoken h.others h.place (warm_path (words.Serve at spec)) _ _ h.written h.are_command.1.written
 is_first spoken (words.Page text) h = absurd h.are_command
 
 -- words of one command are of no other
@@ -95,24 +105,65 @@ warm_or_serve spoken at place spec other h k =
     let same : codes "warm" ≡ codes "serve" = sym (is_first spoken (words.Warm at spec) h) ∙ is_first spoken (words.Serve place other) k in
     absurd cc
 
--- words that are as many without those of their places are the same, at the same place
-same_at : (place other : Place) (some others : List (List ℕ)) → 1 ≤ length some → length some ≡ length others
-    → with_place place some ≡ with_place other others → (place ≡ other) × (some ≡ others)
-same_at place other [] others one many same = absurd (omega (arith, one))
-same_at place other (x ∷ xs) [] one many same = absurd (omega (arith, many))
-same_at Fresh Fresh (x ∷ xs) (y ∷ ys) one many same = (refl, same)
-same_at (File path) (File other) (x ∷ xs) (y ∷ ys) one many same = (cc, cc)
-same_at Fresh (File other) (x ∷ xs) (y ∷ ys) one many same =
+-- words that are as many without those of their options are the same, with the same options
+same_options : (place other : Place) (warm later : Option (List ℕ)) (some others : List (List ℕ)) → 1 ≤ length some → length some ≡ length others
+    → with_options place warm some ≡ with_options other later others → (place ≡ other) × ((warm ≡ later) × (some ≡ others))
+same_options place other warm later [] others one many same = absurd (omega (arith, one))
+same_options place other warm later (x ∷ xs) [] one many same = absurd (omega (arith, many))
+same_options Fresh Fresh None None (x ∷ xs) (y ∷ ys) one many same = (refl, (refl, same))
+same_options (File path) (File other) None None (x ∷ xs) (y ∷ ys) one many same = (cc, (refl, cc))
+same_options Fresh Fresh (Some file) (Some later) (x ∷ xs) (y ∷ ys) one many same = (refl, (cc, cc))
+same_options (File path) (File other) (Some file) (Some later) (x ∷ xs) (y ∷ ys) one many same = (cc, (cc, cc))
+same_options (File path) Fresh None (Some later) (x ∷ xs) (y ∷ ys) one many same =
+    let options : codes "--db" ≡ codes "--warm" = ap (λ (ws : List (List ℕ)). get_or ws 1 []) same in
+    let letter : 100 ≡ 119 = ap (λ (word : List ℕ). get_or word 2 0) options in
+    absurd (omega (arith, letter))
+same_options Fresh (File other) (Some file) None (x ∷ xs) (y ∷ ys) one many same =
+    let options : codes "--warm" ≡ codes "--db" = ap (λ (ws : List (List ℕ)). get_or ws 1 []) same in
+    let letter : 119 ≡ 100 = ap (λ (word : List ℕ). get_or word 2 0) options in
+    absurd (omega (arith, letter))
+same_options Fresh Fresh None (Some later) (x ∷ xs) (y ∷ ys) one many same =
+    let lengths : length (x ∷ xs) ≡ length (y ∷ codes "--warm" ∷ later ∷ ys) = ap length same in
+    absurd (omega (arith, many, lengths))
+same_options Fresh Fresh (Some file) None (x ∷ xs) (y ∷ ys) one many same =
+    let lengths : length (x ∷ codes "--warm" ∷ file ∷ xs) ≡ length (y ∷ ys) = ap length same in
+    absurd (omega (arith, many, lengths))
+same_options Fresh (File other) None None (x ∷ xs) (y ∷ ys) one many same =
     let lengths : length (x ∷ xs) ≡ length (y ∷ codes "--db" ∷ other ∷ ys) = ap length same in
     absurd (omega (arith, many, lengths))
-same_at (File path) Fresh (x ∷ xs) (y ∷ ys) one many same =
+same_options Fresh (File other) None (Some later) (x ∷ xs) (y ∷ ys) one many same =
+    let lengths : length (x ∷ xs) ≡ length (y ∷ codes "--db" ∷ other ∷ codes "--warm" ∷ later ∷ ys) = ap length same in
+    absurd (omega (arith, many, lengths))
+same_options Fresh (File other) (Some file) (Some later) (x ∷ xs) (y ∷ ys) one many same =
+    let lengths : length (x ∷ codes "--warm" ∷ file ∷ xs) ≡ length (y ∷ codes "--db" ∷ other ∷ codes "--warm" ∷ later ∷ ys) = ap length same in
+    absurd (omega (arith, many, lengths))
+same_options (File path) Fresh None None (x ∷ xs) (y ∷ ys) one many same =
     let lengths : length (x ∷ codes "--db" ∷ path ∷ xs) ≡ length (y ∷ ys) = ap length same in
     absurd (omega (arith, many, lengths))
+same_options (File path) Fresh (Some file) None (x ∷ xs) (y ∷ ys) one many same =
+    let lengths : length (x ∷ codes "--db" ∷ path ∷ codes "--warm" ∷ file ∷ xs) ≡ length (y ∷ ys) = ap length same in
+    absurd (omega (arith, many, lengths))
+same_options (File path) Fresh (Some file) (Some later) (x ∷ xs) (y ∷ ys) one many same =
+    let lengths : length (x ∷ codes "--db" ∷ path ∷ codes "--warm" ∷ file ∷ xs) ≡ length (y ∷ codes "--warm" ∷ later ∷ ys) = ap length same in
+    absurd (omega (arith, many, lengths))
+same_options (File path) (File other) None (Some later) (x ∷ xs) (y ∷ ys) one many same =
+    let lengths : length (x ∷ codes "--db" ∷ path ∷ xs) ≡ length (y ∷ codes "--db" ∷ other ∷ codes "--warm" ∷ later ∷ ys) = ap length same in
+    absurd (omega (arith, many, lengths))
+same_options (File path) (File other) (Some file) None (x ∷ xs) (y ∷ ys) one many same =
+    let lengths : length (x ∷ codes "--db" ∷ path ∷ codes "--warm" ∷ file ∷ xs) ≡ length (y ∷ codes "--db" ∷ other ∷ ys) = ap length same in
+    absurd (omega (arith, many, lengths))
 
--- so it is of two commands whose words are the same
 alike : (spoken : List (List ℕ)) (found command : Words) (h : AreWords spoken found) (k : AreWords spoken command)
     → 1 ≤ length h.others → length h.others ≡ length k.others → (h.place ≡ k.place) × (h.others ≡ k.others)
-alike spoken found command h k one many = same_at h.place k.place h.others k.others one many (sym h.written ∙ k.written)
+alike spoken found command h k one many =
+    let same = same_options h.place k.place (warm_path found) (warm_path command) h.others k.others one many (sym h.written ∙ k.written) in
+    (same.0, same.1.1)
+
+-- and so is the path of the file of a cache
+same_path : (spoken : List (List ℕ)) (found command : Words) (h : AreWords spoken found) (k : AreWords spoken command)
+    → 1 ≤ length h.others → length h.others ≡ length k.others → warm_path found ≡ warm_path command
+same_path spoken found command h k one many =
+    (same_options h.place k.place (warm_path found) (warm_path command) h.others k.others one many (sym h.written ∙ k.written)).1.0
 
 -- they are those of one load at most
 same_load : (spoken : List (List ℕ)) (spec other : WorkSpec) → AreWork spoken spec → AreWork spoken other → spec ≡ other
@@ -165,13 +216,24 @@ same_shards spoken spec other h k =
     let same = sym h.written ∙ k.written in
     decimal_injective spec.shards other.shards (omega arith) (omega arith) cc
 
-are_same : (spoken : List (List ℕ)) (spec other : ServeSpec) → AreServe spoken spec → AreServe spoken other → AreSame spec other
-are_same spoken spec other h k = record {
+are_same : (spoken : List (List ℕ)) (spec other : ServeSpec) → AreServe spoken spec → AreServe spoken other → path_in spec.warm ≡ path_in other.warm → AreSame spec other
+are_same spoken spec other h k warm = record {
   addr = same_addr spoken spec other h k;
   conns = same_conns spoken spec other h k;
   members = same_members spoken spec other h k;
   shards = same_shards spoken spec other h k;
+  warm = warm;
 }
+
+-- two servers of the same words are the same
+served_alike : (spoken : List (List ℕ)) (at place : Place) (spec other : ServeSpec) → AreWords spoken (words.Serve at spec) → AreWords spoken (words.Serve place other)
+    → AreSame spec other
+served_alike spoken at place spec other h k =
+    let six : length h.others ≡ 6 = ap length h.are_command.1.written in
+    let six' : length k.others ≡ 6 = ap length k.are_command.1.written in
+    let same = alike spoken (words.Serve at spec) (words.Serve place other) h k (omega (arith, six)) (six ∙ sym six') in
+    are_same k.others spec other (subst (λ (ws : List (List ℕ)). AreServe ws spec) same.1 h.are_command.1) k.are_command.1
+    (same_path spoken (words.Serve at spec) (words.Serve place other) h k (omega (arith, six)) (six ∙ sym six'))
 
 -- ---- where nothing was done
 
@@ -233,11 +295,9 @@ ended_alike spoken (words.Serve at spec) (words.Serve place other) h k ended cou
     let six : length h.others ≡ 6 = ap length h.are_command.1.written in
     let six' : length k.others ≡ 6 = ap length k.are_command.1.written in
     let same = alike spoken (words.Serve at spec) (words.Serve place other) h k (omega (arith, six)) (six ∙ sym six') in
-    let too : AreServe k.others spec = subst (λ (ws : List (List ℕ)). AreServe ws spec) same.1 h.are_command.1 in
-    let are = k.are_command.1 in
     let there = subst (λ (p : Place). EndedAs (Ok (words.Serve p spec)) ended courses) (h.are_command.0 ∙ same.0 ∙ sym k.are_command.0) e in (
       there.0,
-      same_server spec other ended (courses place) (are_same k.others spec other too are) there.1,
+      same_server spec other ended (courses place) (served_alike spoken at place spec other h k) there.1,
     )
 ended_alike spoken (words.Replay at) (words.Work place spec) h k ended courses e = absurd (replay_or_work spoken at place spec h k)
 ended_alike spoken (words.Replay at) (words.Serve place spec) h k ended courses e = absurd (replay_or_serve spoken at place spec h k)
@@ -388,6 +448,7 @@ load_no_door (status.Script row kind) spec held before after left written h = re
 load_no_door status.ReadFault spec held before after left written h = refl
 load_no_door status.WriteFault spec held before after left written h = refl
 load_no_door status.DoorFault spec held before after left written h = absurd h
+load_no_door status.FileFault spec held before after left written h = absurd h
 load_no_door status.KeepFault spec held before after left written h = refl
 load_no_door (status.Spent shard) spec held before after left written h = refl
 load_no_door status.Memory spec held before after left written h = refl
@@ -413,6 +474,7 @@ warm_no_door (status.Script row kind) spec course h = refl
 warm_no_door status.ReadFault spec course h = refl
 warm_no_door status.WriteFault spec course h = refl
 warm_no_door status.DoorFault spec course h = absurd (no_door_of_two spec course h)
+warm_no_door status.FileFault spec course h = refl
 warm_no_door status.KeepFault spec course h = refl
 warm_no_door (status.Spent shard) spec course h = refl
 warm_no_door status.Memory spec course h = refl
@@ -422,6 +484,28 @@ pub server_not_failed : (ended : Status) (spec : ServeSpec) (course : Course) �
 server_not_failed ended spec course h same below is =
     let failed = subst (λ (e : Status). ServeEnded e spec course) is h in
     not_rose course.before.keeps_failed course.after.keeps_failed failed.0 same below
+
+-- ---- no command but a server ends at its cache's file
+
+pub replay_no_file : (ended : Status) (held : Held) (before after : Tells) (left : Left) (written : ℕ)
+    → Ended ended held before after left written → ended ≡ status.FileFault → ⊥
+replay_no_file ended held before after left written h is = subst (λ (e : Status). Ended e held before after left written) is h
+
+pub load_no_file : (ended : Status) (spec : WorkSpec) (held : Held) (before after : Tells) (left : Left) (written : ℕ)
+    → WorkEnded ended spec held before after left written → ended ≡ status.FileFault → ⊥
+load_no_file ended spec held before after left written h is = subst (λ (e : Status). WorkEnded e spec held before after left written) is h
+
+no_file_of_two : (spec : WorkSpec) (course : Course) → WarmEnded status.FileFault spec course → ⊥
+no_file_of_two spec course (inl first) = absurd first.stopped
+no_file_of_two spec course (inr (inl between)) = absurd between.is_part
+no_file_of_two spec course (inr (inr second)) = absurd second
+
+pub warm_no_file : (ended : Status) (spec : WorkSpec) (course : Course) → WarmEnded ended spec course → ended ≡ status.FileFault → ⊥
+warm_no_file ended spec course h is = no_file_of_two spec course (subst (λ (e : Status). WarmEnded e spec course) is h)
+
+pub text_no_file : (text : List ℕ) (ended : Status) (before after : Tells) (left : Left) (written : ℕ)
+    → IsTextPrinted text ended before after left written → ended ≡ status.FileFault → ⊥
+text_no_file text ended before after left written h is = subst (λ (e : Status). IsTextPart e text h.printed) is h.is_part
 
 -- ---- how the lines of a command ended, by what its words were read as
 
@@ -534,3 +618,112 @@ pub earlier_err : (spoken : List (List ℕ)) (read : Result Words WordsFault) (e
 earlier_err spoken read earlier accepts is usage why first none =
     are_earlier spoken read earlier accepts (reading_of spoken read accepts is usage)
     (subst (λ (r : Result Words WordsFault). LeavesEarlier r earlier) (sym first) none)
+
+-- ---- what the files have at the end, by what the words were read as
+
+-- where none was touched
+none_saved : (command : Words) (ended : Status) (rows : Option Tables) (left : Left) (old new : Files) → SameTexts old new
+    → is_done ended ≡ false → SavedAs (Ok command) ended rows left old new
+none_saved (words.Replay at) ended rows left old new same undone = same
+none_saved (words.Work at spec) ended rows left old new same undone = same
+none_saved (words.Warm at spec) ended rows left old new same undone = same
+none_saved (words.Serve at spec) ended rows left old new same undone = unsaved_at spec.warm ended spec rows left old new undone same
+none_saved (words.Page text) ended rows left old new same undone = same
+
+-- what a server saved is what one of the same words saves
+same_saved : (path other : Option (Vec ℕ Global)) (found spec : ServeSpec) (ended : Status) (rows : Option Tables) (left : Left) (old new : Files)
+    → path_in path ≡ path_in other → serve_shape found ≡ serve_shape spec → SavesAt path ended found rows left old new
+    → SavesAt other ended spec rows left old new
+same_saved None None found spec ended rows left old new same shape h = h
+same_saved None (Some other) found spec ended rows left old new same shape h = absurd cc
+same_saved (Some path) None found spec ended rows left old new same shape h = absurd cc
+same_saved (Some path) (Some other) found spec status.Done rows left old new same shape h =
+    let at : path.items ≡ other.items = cc in
+    record {
+      saved = subst (λ (p : List ℕ). ForSome (new p) (IsSavedText spec rows left)) at (same_text (new path.items) h.saved);
+      others = subst (λ (p : List ℕ). SameElsewhere p old new) at h.others;
+    }
+  where
+    shards : found.shards ≡ spec.shards
+    shards = ap (λ (s : Shape). s.shards) shape
+
+    same_text : (told : Option (List ℕ)) → ForSome told (IsSavedText found rows left) → ForSome told (IsSavedText spec rows left)
+    same_text told are = λ text here.
+        let is = are text here in
+        record {
+          opening = is.opening;
+          opening_is = is.opening_is;
+          dumps = is.dumps;
+          are_dumps = subst (λ n. AreDumps n is.dumps) shards is.are_dumps;
+          text_is = is.text_is;
+          each = λ place steps dump at at_dump.
+              subst (λ (s : Shape). IsDumpedOf (hub_terms s serve_keep place) rows is.opening left.log steps dump) shape (is.each place steps dump at at_dump);
+        }
+same_saved (Some path) (Some other) found spec status.Usage rows left old new same shape h = h
+same_saved (Some path) (Some other) found spec (status.Script line kind) rows left old new same shape h = h
+same_saved (Some path) (Some other) found spec status.ReadFault rows left old new same shape h = h
+same_saved (Some path) (Some other) found spec status.WriteFault rows left old new same shape h = h
+same_saved (Some path) (Some other) found spec status.DoorFault rows left old new same shape h = h
+same_saved (Some path) (Some other) found spec status.KeepFault rows left old new same shape h = h
+same_saved (Some path) (Some other) found spec (status.Spent shard) rows left old new same shape h = h
+same_saved (Some path) (Some other) found spec status.FileFault rows left old new same shape h = h
+same_saved (Some path) (Some other) found spec status.Memory rows left old new same shape h = h
+
+-- a command that is no server touches no file, and the words of one are not another's
+saved_alike : (spoken : List (List ℕ)) (found command : Words) → AreWords spoken found → AreWords spoken command
+    → (ended : Status) (rows : Option Tables) (left : Left) (old new : Files) → SavedAs (Ok found) ended rows left old new → SavedAs (Ok command) ended rows left old new
+saved_alike spoken (words.Serve at spec) (words.Serve place other) h k ended rows left old new saved =
+    let same = served_alike spoken at place spec other h k in
+    same_saved spec.warm other.warm spec other ended rows left old new same.warm (same_shape spec other same.members same.shards) saved
+saved_alike spoken (words.Serve at spec) (words.Replay place) h k ended rows left old new saved = absurd (replay_or_serve spoken place at spec k h)
+saved_alike spoken (words.Serve at spec) (words.Work place other) h k ended rows left old new saved = absurd (work_or_serve spoken place at other spec k h)
+saved_alike spoken (words.Serve at spec) (words.Warm place other) h k ended rows left old new saved = absurd (warm_or_serve spoken place at other spec k h)
+saved_alike spoken (words.Serve at spec) (words.Page text) h k ended rows left old new saved = absurd k.are_command
+saved_alike spoken (words.Page text) command h k ended rows left old new saved = absurd h.are_command
+saved_alike spoken (words.Replay at) (words.Replay place) h k ended rows left old new saved = saved
+saved_alike spoken (words.Replay at) (words.Work place other) h k ended rows left old new saved = saved
+saved_alike spoken (words.Replay at) (words.Warm place other) h k ended rows left old new saved = saved
+saved_alike spoken (words.Replay at) (words.Page text) h k ended rows left old new saved = saved
+saved_alike spoken (words.Replay at) (words.Serve place other) h k ended rows left old new saved = absurd (replay_or_serve spoken at place other h k)
+saved_alike spoken (words.Work at spec) (words.Replay place) h k ended rows left old new saved = saved
+saved_alike spoken (words.Work at spec) (words.Work place other) h k ended rows left old new saved = saved
+saved_alike spoken (words.Work at spec) (words.Warm place other) h k ended rows left old new saved = saved
+saved_alike spoken (words.Work at spec) (words.Page text) h k ended rows left old new saved = saved
+saved_alike spoken (words.Work at spec) (words.Serve place other) h k ended rows left old new saved = absurd (work_or_serve spoken at place spec other h k)
+saved_alike spoken (words.Warm at spec) (words.Replay place) h k ended rows left old new saved = saved
+saved_alike spoken (words.Warm at spec) (words.Work place other) h k ended rows left old new saved = saved
+saved_alike spoken (words.Warm at spec) (words.Warm place other) h k ended rows left old new saved = saved
+saved_alike spoken (words.Warm at spec) (words.Page text) h k ended rows left old new saved = saved
+saved_alike spoken (words.Warm at spec) (words.Serve place other) h k ended rows left old new saved = absurd (warm_or_serve spoken at place spec other h k)
+
+worded_saved : (spoken : List (List ℕ)) (read : Result Words WordsFault) (ended : Status) (rows : Option Tables) (left : Left) (old new : Files)
+    → Accepts spoken read → ((why : WordsFault) → read ≡ Err why → is_done ended ≡ false) → SavedAs read ended rows left old new
+    → (command : Words) → AreWords spoken command → SavedAs (Ok command) ended rows left old new
+worded_saved spoken (Ok found) ended rows left old new accepts undone saved command is =
+    saved_alike spoken found command (accepts command is) is ended rows left old new saved
+worded_saved spoken (Err why) ended rows left old new accepts undone same command is = none_saved command ended rows left old new same (undone why refl)
+
+are_saved : (spoken : List (List ℕ)) (read : Result Words WordsFault) (ended : Status) (rows : Option Tables) (left : Left) (old new : Files)
+    → Accepts spoken read → ((why : WordsFault) → read ≡ Err why → is_done ended ≡ false) → IsReading spoken read → SavedAs read ended rows left old new
+    → AreSaved spoken ended rows left old new
+are_saved spoken read ended rows left old new accepts undone reading saved = record {
+  worded = worded_saved spoken read ended rows left old new accepts undone saved;
+  read = read;
+  is_reading = reading;
+  saved = saved;
+}
+
+pub saved_ok : (spoken : List (List ℕ)) (read : Result Words WordsFault) (ended : Status) (rows : Option Tables) (left : Left) (old new : Files)
+    → Accepts spoken read → IfOk read (IsRead spoken) → (read ≡ Err fault.Usage → (command : Words) → AreReadAs spoken command → ⊥)
+    → (found command : Words) → read ≡ Ok found → found ≡ command → SavedAs (Ok command) ended rows left old new → AreSaved spoken ended rows left old new
+saved_ok spoken read ended rows left old new accepts is usage found command first then saved =
+    let as_read : read ≡ Ok command = cc in
+    are_saved spoken read ended rows left old new accepts (λ why no. absurd cc) (reading_of spoken read accepts is usage)
+    (subst (λ (r : Result Words WordsFault). SavedAs r ended rows left old new) (sym as_read) saved)
+
+pub saved_err : (spoken : List (List ℕ)) (read : Result Words WordsFault) (ended : Status) (rows : Option Tables) (left : Left) (old new : Files)
+    → Accepts spoken read → IfOk read (IsRead spoken) → (read ≡ Err fault.Usage → (command : Words) → AreReadAs spoken command → ⊥)
+    → (why : WordsFault) → read ≡ Err why → is_done ended ≡ false → SameTexts old new → AreSaved spoken ended rows left old new
+saved_err spoken read ended rows left old new accepts is usage why first undone same =
+    are_saved spoken read ended rows left old new accepts (λ other no. undone) (reading_of spoken read accepts is usage)
+    (subst (λ (r : Result Words WordsFault). SavedAs r ended rows left old new) (sym first) same)

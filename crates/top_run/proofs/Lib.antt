@@ -13,6 +13,8 @@ pub mod RunLemmas
 pub mod SummaryLemmas
 pub mod WorkLemmas
 pub mod SecondLemmas
+pub mod WarmStartLemmas
+pub mod SaveLemmas
 pub mod ServeLemmas
 pub mod CommandLemmas
 pub mod ReadyLemmas

@@ -1,6 +1,6 @@
 -- What a second load leaves: it goes on from what was loaded, and its hits have the values that were taken over.
-use Rattle.std.proofs.Common.{ℕ, zero, suc, ◌≡◌, ◌≤◌, ◌<◌, ◌+◌, ◌*◌, ◌^◌, List, [], ◌∷◌, ◌++◌, All, length, map, reverse, drop, get_or, refl, sym, ap, subst, ◌∙◌, inl, inr, arith, length-append}
-use Rattle.std.specs.Prelude.{Bool, true, false, ◌⊎◌, Option, Some, None, IsSome, is_none, slice_get, option_map, unwrap_or, vec_capacity}
+use Rattle.std.proofs.Common.{ℕ, suc, ◌≡◌, ◌≤◌, ◌<◌, ◌+◌, ◌*◌, ◌^◌, List, [], ◌∷◌, ◌++◌, All, length, map, reverse, drop, refl, sym, ap, subst, ◌∙◌, inl, inr, arith}
+use Rattle.std.specs.Prelude.{Bool, true, false, ◌⊎◌, Option, Some, None, IsSome, is_none, slice_get, option_map, unwrap_or}
 use Rattle.std.specs.List.{AllByRecursion, list_any}
 use Rattle.std.specs.Option.{ForSome}
 use Rattle.std.proofs.lemmas.List.{length-map, length-reverse, reverse-append, reverse-reverse}
@@ -9,7 +9,6 @@ use Rattle.std.proofs.lemmas.Option.{slice_get-map, slice_get_within, get_or_fro
 use Rattle.rows_model.specs.declared.keys.QKey.{QKey}
 use Rattle.rows_model.specs.declared.keys.Sid.{Sid}
 use Rattle.rows_model.specs.Changes.{touches}
-use Rattle.rows_model.specs.Key.{same_key}
 use Rattle.rows_model.specs.Query.{answer}
 use Rattle.rows_model.specs.Rows.{Tables}
 use Rattle.rows_model.proofs.SameKey.{same_key-true}
@@ -29,7 +28,6 @@ use Rattle.bound_hub.specs.Ties.{IsNewShard}
 use Rattle.run_audit.specs.Findings.{histories_in}
 use Rattle.run_inputs.specs.declared.loads.WorkSpec.{WorkSpec}
 use Rattle.run_inputs.specs.Loads.{IsWork}
-use Rattle.shard_dump.specs.declared.rows.Dump.{Dump}
 use Rattle.shard_dump.specs.declared.rows.DumpRow.{DumpRow}
 use Rattle.shard_dump.specs.Dumps.{dump_of}
 use Rattle.shard_dump.specs.Loads.{loaded_steps}
@@ -42,7 +40,7 @@ use Rattle.top_run.specs.Runs.{Left}
 use Rattle.top_run.specs.Works.{hub_terms, work_shape}
 use Rattle.top_run.specs.Warms.{BeginsLoaded, HasValueOf, HaveTakenOver, HitsHaveValues, dumps_from, dumps_in, next_load, rows_in, steps_behind}
 use Rattle.top_run.specs.Warming.{AreDumped, AreToLoad, CanLoadAll, GoesOn, IsAnew, IsHalf, IsReadyAnew, KeepsAnswers, KeepsOn, NamesAnew, before_of, left_by, rows_left, since_in, since_of}
-use Rattle.top_run.proofs.AnewLemmas.{IsAt, all_loaded, at, begins_at, legal_loaded, loads_named, new_loaded}
+use Rattle.top_run.proofs.AnewLemmas.{IsAt, all_loaded, at, begins_at, new_loaded}
 use Rattle.top_run.proofs.WarmEnds.{all_alike}
 
 -- ---- hits on a key that nothing moves
@@ -301,7 +299,7 @@ module _ (spec : WorkSpec) (known_rows : Option Tables) (opening : Tables) (firs
 
   pub make_anew : (store : StoreView) (count start : Option ℕ) (terms : ℕ → Terms) (named_opening : Tables) (cap : ℕ) (named_rows : Option Tables)
       (name parts : ℕ) (word : WordView) (begun failed : ℕ) → spec.shards ≤ 64 → store.ledger.opening ≡ opening → store.known_rows ≡ known_rows
-      → NamesAnew spec store count start terms named_opening cap named_rows name parts word before begun failed ready.parts.hub
+      → NamesAnew (work_shape spec) None store count start terms named_opening cap named_rows name parts word before begun failed ready.parts.hub
       → MakeHub terms named_opening before (is_none store.known_rows) name parts word ready.parts.hub
   make_anew store count start terms named_opening cap named_rows name parts word begun failed few same told names =
       let shape = hub_terms (work_shape spec) None in

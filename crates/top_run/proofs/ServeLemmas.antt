@@ -11,9 +11,11 @@ use Rattle.conn_server.specs.declared.ends.LineEnd.{LineEnd}
 use Rattle.run_words.specs.declared.words.ServeSpec.{ServeSpec}
 use Rattle.top_run.specs.Runs.{Prints, is_read_fault}
 use Rattle.top_run.specs.Works.{IsKept}
-use Rattle.top_run.specs.Serves.{serve_shape, serve_keep, ready_line, served_line, serve_text, IsServedText, IsAttended, HasServed, Course, IsServed, ServeEnded}
+use Rattle.top_run.specs.declared.serves.Begun.{Begun}
+use Rattle.top_run.specs.declared.serves.Begun.TheVariants as cache
+use Rattle.top_run.specs.Serves.{serve_shape, serve_keep, begun_line, ready_line, ready_text, served_line, serve_text, BeginsBy, IsServedText, IsAttended, HasServed, Course, IsServed, ServeEnded}
 use Rattle.door_workers.specs.Attending.{GivesBack, HaveEnds, IsEnough}
-use Rattle.run_words.specs.Words.{most_served}
+use Rattle.run_words.specs.Words.{most_served, path_in}
 use Rattle.door_workers.specs.DoorSeen.{DoorSeen}
 use Rattle.door_workers.specs.Ends.{AreHandedBack, AreServed}
 use Rattle.door_workers.proofs.EndLemmas.{none-handed, none-served}
@@ -26,10 +28,23 @@ pub ready_is : ready_line ≡ codes "ready\n"
 unfolding ready_line
 ready_is = refl
 
--- the first bytes of the first line are the first of all that is written
-pub ready_cut : (front rest : List ℕ) (lines : ℕ) → front ++ rest ≡ codes "ready\n" → front ++ (rest ++ served_line lines) ≡ serve_text lines
-ready_cut front rest lines parts =
-    sym (append_assoc front rest (served_line lines)) ∙ ap (λ (bytes : List ℕ). bytes ++ served_line lines) (parts ∙ sym ready_is)
+-- the line that tells how the cache began
+pub new_is : begun_line cache.New ≡ []
+unfolding begun_line
+new_is = refl
+
+pub cold_is : begun_line cache.Cold ≡ codes "cold\n"
+unfolding begun_line
+cold_is = refl
+
+pub warm_is : (rows : ℕ) → begun_line (cache.Warm rows) ≡ (codes "warm " ++ decimal rows) ++ 10 ∷ []
+unfolding begun_line
+warm_is rows = refl
+
+-- the first bytes of the first lines are the first of all that is written
+pub ready_cut : (begun : Begun) (front rest : List ℕ) (lines : ℕ) → front ++ rest ≡ ready_text begun → front ++ (rest ++ served_line lines) ≡ serve_text begun lines
+ready_cut begun front rest lines parts =
+    sym (append_assoc front rest (served_line lines)) ∙ ap (λ (bytes : List ℕ). bytes ++ served_line lines) parts
 
 -- the last line, word by word
 pub served_is : (lines : ℕ) → served_line lines ≡ (codes "served " ++ decimal lines) ++ 10 ∷ []
@@ -37,8 +52,9 @@ unfolding served_line
 served_is lines = refl
 
 -- and the first bytes of the last line behind the first are too
-pub served_cut : (front rest : List ℕ) (lines : ℕ) → front ++ rest ≡ served_line lines → (ready_line ++ front) ++ rest ≡ serve_text lines
-served_cut front rest lines parts = append_assoc ready_line front rest ∙ ap (λ (bytes : List ℕ). ready_line ++ bytes) parts
+pub served_cut : (begun : Begun) (front rest : List ℕ) (lines : ℕ) → front ++ rest ≡ served_line lines
+    → (ready_text begun ++ front) ++ rest ≡ serve_text begun lines
+served_cut begun front rest lines parts = append_assoc (ready_text begun) front rest ∙ ap (λ (bytes : List ℕ). ready_text begun ++ bytes) parts
 
 -- there is room for the ends of as many lines as are served
 pub room_for : (most : Option ℕ) (count room : ℕ) → count ≡ unwrap_or most 0 → count ≤ room → IfSome most (λ m. m ≤ room)
@@ -58,11 +74,11 @@ ends_none : (most : Option ℕ) → HaveEnds most 0 []
 ends_none None = refl
 ends_none (Some most) = refl
 
-pub unattended : (spec : ServeSpec) (ended : Status) (taken_old taken_new : Option (List ℕ)) (before after : DoorSeen) (printed : List ℕ) (written : ℕ)
+pub unattended : (spec : ServeSpec) (begun : Begun) (ended : Status) (taken_old taken_new : Option (List ℕ)) (before after : DoorSeen) (printed : List ℕ) (written : ℕ)
     → after.lines ≡ before.lines → after.closed ≡ before.closed → (ended ≡ status.Done → ⊥)
-    → (printed ≢ [] → after.bound ≡ Some spec.addr.items) → IsServedText ended 0 printed → Prints taken_old taken_new printed written
-    → IsAttended spec ended taken_old taken_new before after [] written
-unattended spec ended taken_old taken_new before after printed written same closed unfinished bound text prints = record {
+    → (printed ≢ [] → after.bound ≡ Some spec.addr.items) → IsServedText begun ended 0 printed → Prints taken_old taken_new printed written
+    → IsAttended spec begun ended taken_old taken_new before after [] written
+unattended spec begun ended taken_old taken_new before after printed written same closed unfinished bound text prints = record {
   lines = 0;
   few = few_none (most_served spec.conns);
   have_ends = ends_none (most_served spec.conns);
@@ -76,17 +92,18 @@ unattended spec ended taken_old taken_new before after printed written same clos
 }
 
 -- where memory ran out before the door was bound
-unattended_short : (spec : ServeSpec) (taken : Option (List ℕ)) (door : DoorSeen) (ends : List LineEnd) → ends ≡ []
-    → IsAttended spec status.Memory taken taken door door ends 0
-unattended_short spec taken door ends none =
-    subst (λ (l : List LineEnd). IsAttended spec status.Memory taken taken door door l 0) (sym none)
-    (unattended spec status.Memory taken taken door door [] 0 refl refl (λ is. cc) (λ some. absurd (some refl)) (inl (refl, refl)) (print_none taken))
+unattended_short : (spec : ServeSpec) (begun : Begun) (taken : Option (List ℕ)) (door : DoorSeen) (ends : List LineEnd) → ends ≡ []
+    → IsAttended spec begun status.Memory taken taken door door ends 0
+unattended_short spec begun taken door ends none =
+    subst (λ (l : List LineEnd). IsAttended spec begun status.Memory taken taken door door l 0) (sym none)
+    (unattended spec begun status.Memory taken taken door door [] 0 refl refl (λ is. cc) (λ some. absurd (some refl)) (inl (inl (refl, refl))) (print_none taken))
 
-pub unserved_short : {W : Type 0} (sinks : Sinks W) (spec : ServeSpec) (sink : W) (door : DoorSeen) (ends : Vec LineEnd Global) (served : Served)
-    → served ≡ record { status = status.Memory; ends = ends; written = 0 } → ends.items ≡ [] → HasServed sinks spec served sink sink door door
-unserved_short sinks spec sink door ends served is none =
-    subst (λ (s : Served). HasServed sinks spec s sink sink door door) (sym is) (record {
-      attended = unattended_short spec (sinks.taken sink) door ends.items none;
+pub unserved_short : {W : Type 0} (sinks : Sinks W) (spec : ServeSpec) (begun : Begun) (sink : W) (door : DoorSeen) (ends : Vec LineEnd Global) (served : Served)
+    → served ≡ record { status = status.Memory; ends = ends; written = 0 } → ends.items ≡ [] → HasServed sinks spec begun served sink sink door door
+unserved_short sinks spec begun sink door ends served is none =
+    subst (λ (s : Served). HasServed sinks spec begun s sink sink door door) (sym is) (record {
+      unsaved = refl;
+      attended = unattended_short spec begun (sinks.taken sink) door ends.items none;
       writes = (refl, omega arith);
       doors = (refl, omega arith);
     })
@@ -101,31 +118,39 @@ served_ended (status.Script row kind) spec course h = h.attended.is_text
 served_ended status.ReadFault spec course h = h.attended.is_text
 served_ended status.WriteFault spec course h = h
 served_ended status.DoorFault spec course h = h
+served_ended status.FileFault spec course h = h
 served_ended status.KeepFault spec course h = absurd h.attended.is_text
 served_ended (status.Spent shard) spec course h = h.attended.is_text
 served_ended status.Memory spec course h = inr h
 
 -- it is none for want of a command, nor at a read
-pub no_usage : (ended : Status) (lines : ℕ) (printed : List ℕ) → IsServedText ended lines printed → ended ≡ status.Usage → ⊥
-no_usage ended lines printed text is = subst (λ (e : Status). IsServedText e lines printed) is text
+pub no_usage : (begun : Begun) (ended : Status) (lines : ℕ) (printed : List ℕ) → IsServedText begun ended lines printed → ended ≡ status.Usage → ⊥
+no_usage begun ended lines printed text is = subst (λ (e : Status). IsServedText begun e lines printed) is text
 
-pub no_read : (ended : Status) (lines : ℕ) (printed : List ℕ) → IsServedText ended lines printed → is_read_fault ended ≡ false
-no_read status.Done lines printed text = refl
-no_read status.Usage lines printed text = refl
-no_read (status.Script row kind) lines printed text = refl
-no_read status.ReadFault lines printed text = absurd text
-no_read status.WriteFault lines printed text = refl
-no_read status.DoorFault lines printed text = refl
-no_read status.KeepFault lines printed text = refl
-no_read (status.Spent shard) lines printed text = refl
-no_read status.Memory lines printed text = refl
+pub no_read : (begun : Begun) (ended : Status) (lines : ℕ) (printed : List ℕ) → IsServedText begun ended lines printed → is_read_fault ended ≡ false
+no_read begun status.Done lines printed text = refl
+no_read begun status.Usage lines printed text = refl
+no_read begun (status.Script row kind) lines printed text = refl
+no_read begun status.ReadFault lines printed text = absurd text
+no_read begun status.WriteFault lines printed text = refl
+no_read begun status.DoorFault lines printed text = refl
+no_read begun status.FileFault lines printed text = refl
+no_read begun status.KeepFault lines printed text = refl
+no_read begun (status.Spent shard) lines printed text = refl
+no_read begun status.Memory lines printed text = refl
 
 -- ---- a server of the same numbers
 
-same_shape : (found spec : ServeSpec) → found.members ≡ spec.members → found.shards ≡ spec.shards → serve_shape found ≡ serve_shape spec
+pub same_shape : (found spec : ServeSpec) → found.members ≡ spec.members → found.shards ≡ spec.shards → serve_shape found ≡ serve_shape spec
 same_shape found spec members shards =
     ap (λ (n : ℕ). record { members = n; shards = found.shards; room = 4096; life = 10000 }) members
     ∙ ap (λ (n : ℕ). record { members = spec.members; shards = n; room = 4096; life = 10000 }) shards
+
+same_begins : (found spec : Option (Vec ℕ Global)) (begun : Begun) → path_in found ≡ path_in spec → BeginsBy found begun → BeginsBy spec begun
+same_begins None None begun same h = h
+same_begins None (Some path) begun same h = absurd cc
+same_begins (Some path) None begun same h = absurd cc
+same_begins (Some path) (Some other) begun same h = h
 
 -- what two servers' words have in common, which are the same
 pub record AreSame (found spec : ServeSpec) : Type 0 where
@@ -133,12 +158,15 @@ pub record AreSame (found spec : ServeSpec) : Type 0 where
   pub conns : found.conns ≡ spec.conns
   pub members : found.members ≡ spec.members
   pub shards : found.shards ≡ spec.shards
+  pub warm : path_in found.warm ≡ path_in spec.warm
 
 same_served : (found spec : ServeSpec) (ended : Status) (course : Course) → AreSame found spec → IsServed found ended course → IsServed spec ended course
 same_served found spec ended course same h =
     let most : most_served found.conns ≡ most_served spec.conns = ap most_served same.conns in
     record {
       opening = h.opening;
+      begun = h.begun;
+      begins = same_begins found.warm spec.warm h.begun same.warm h.begins;
       failed = h.failed;
       kept = subst (λ (shape : Shape). IsKept shape serve_keep course.held course.before course.after course.left h.opening h.failed)
           (same_shape found spec same.members same.shards) h.kept;
@@ -163,6 +191,7 @@ same_server found spec (status.Script row kind) course same h = h
 same_server found spec status.ReadFault course same h = h
 same_server found spec status.WriteFault course same h = same_served found spec status.WriteFault course same h
 same_server found spec status.DoorFault course same h = same_served found spec status.DoorFault course same h
+same_server found spec status.FileFault course same h = same_served found spec status.FileFault course same h
 same_server found spec status.KeepFault course same h = h
 same_server found spec (status.Spent shard) course same h = h
 same_server found spec status.Memory course same (inl h) = inl h

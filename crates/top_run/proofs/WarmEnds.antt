@@ -1,20 +1,17 @@
 -- The three ends of a run of two loads.
-use Rattle.std.proofs.Common.{ℕ, ◌≡◌, ◌≤◌, ◌<◌, ◌+◌, ◌-◌, ◌^◌, ◌≢◌, List, [], ◌∷◌, ◌++◌, length, All, refl, sym, ap, subst, ◌∙◌, inl, inr, arith, append_assoc, append-nil}
-use Rattle.std.specs.Prelude.{Bool, true, false, ◌⊎◌, nat_lt, Option, Some, None, Result, Ok, Err, IfOk, IfErr, OnErr, IsErr, IsSome, slice_get}
+use Rattle.std.proofs.Common.{ℕ, ◌≡◌, ◌≤◌, ◌+◌, ◌-◌, ◌^◌, ◌≢◌, List, [], ◌∷◌, ◌++◌, length, refl, sym, ap, subst, ◌∙◌, inl, inr, arith}
+use Rattle.std.specs.Prelude.{Bool, true, false, ◌⊎◌, nat_lt, Option, Some, None, Result, Ok, Err, IfOk, IfErr, OnErr, IsErr, IsSome}
 use Rattle.std.specs.Option.{ForSome, option_or}
 use Rattle.std.proofs.lemmas.Bool.{false≢true}
 use Rattle.std.proofs.lemmas.List.{length-map}
 use Rattle.iq_outside.specs.Outside.{Rose}
 use Rattle.rows_model.specs.Rows.{Tables}
-use Rattle.key_shard.specs.declared.steps.Step.{Step}
 use Rattle.key_shard.specs.Past.{Terms}
 use Rattle.key_shard.specs.Shards.{ShardView}
-use Rattle.sql_keeper.specs.Faults.{HaveFailed, FailedSince}
-use Rattle.sql_keeper.specs.Fresh.{Covered, Fresh}
+use Rattle.sql_keeper.specs.Faults.{HaveFailed}
 use Rattle.sql_keeper.specs.Log.{rows_after}
-use Rattle.sql_keeper.specs.Stores.{StoreView, rows_of}
-use Rattle.core_history.specs.Machine.{log_cap}
-use Rattle.shard_lock.specs.Names.{AreAll, IsNamed}
+use Rattle.sql_keeper.specs.Stores.{StoreView}
+use Rattle.shard_lock.specs.Names.{AreAll}
 use Rattle.run_audit.specs.declared.findings.Finding.{Finding}
 use Rattle.run_audit.specs.Findings.{histories_in}
 use Rattle.run_inputs.specs.declared.loads.WorkSpec.{WorkSpec}
@@ -22,7 +19,7 @@ use Rattle.top_run.specs.declared.plays.Stop.{Stop}
 use Rattle.top_run.specs.declared.plays.Stop.TheVariants as stop
 use Rattle.top_run.specs.declared.runs.Status.{Status}
 use Rattle.top_run.specs.declared.runs.Status.TheVariants as status
-use Rattle.top_run.specs.Runs.{Held, Tells, Left, Prints, IsNotStarted, IsOpened, IsUnasked}
+use Rattle.top_run.specs.Runs.{Held, Left, Prints, IsOpened}
 use Rattle.top_run.specs.Serves.{Course}
 use Rattle.run_inputs.specs.Loads.{load}
 use Rattle.top_run.specs.Works.{AreUnspent, HaveSessions, IsHalted, IsKept, IsSummary, first_spent, hub_terms, work_shape, work_status, end_status}

@@ -1,8 +1,8 @@
 -- Two loads, of which the second takes over what is still right.
-use Rattle.std.proofs.Common.{ℕ, zero, suc, ◌≡◌, ◌≤◌, ◌<◌, ◌+◌, ◌-◌, List, [], ◌∷◌, ◌++◌, All, length, map, reverse, take, drop, get_or, refl, sym, ap, subst, ◌∙◌, inl, inr, arith}
-use Rattle.std.specs.Prelude.{Bool, true, false, ◌||◌, ◌⊎◌, Option, Some, None, IsSome, is_none, slice_get, option_map}
+use Rattle.std.proofs.Common.{ℕ, zero, suc, ◌≡◌, ◌≤◌, ◌+◌, ◌-◌, List, [], ◌∷◌, All, length, take, drop, refl, sym, ap, subst, ◌∙◌, arith}
+use Rattle.std.specs.Prelude.{Bool, true, false, ◌||◌, Option, Some, None, IsSome, is_none, slice_get, option_map}
 use Rattle.std.specs.List.{AllByRecursion, list_any}
-use Rattle.std.proofs.lemmas.Bool.{false≢true, cases_Bool, or_right}
+use Rattle.std.proofs.lemmas.Bool.{false≢true, or_right}
 use Rattle.std.proofs.lemmas.List.Elements.{All-weaker}
 use Rattle.std.proofs.lemmas.Option.{slice_get-map}
 use Rattle.rows_model.specs.declared.keys.QKey.{QKey}
@@ -11,10 +11,10 @@ use Rattle.rows_model.specs.Changes.{touches}
 use Rattle.rows_model.specs.Query.{answer}
 use Rattle.rows_model.specs.Rows.{Tables}
 use Rattle.key_shard.specs.declared.steps.Step.{Step}
-use Rattle.key_shard.specs.Answers.{IsAtHome, Legal}
+use Rattle.key_shard.specs.Answers.{Legal}
 use Rattle.shard_lock.specs.Names.{AreLegal}
 use Rattle.key_shard.specs.Past.{entry}
-use Rattle.key_shard.specs.Shards.{ShardView, past_of}
+use Rattle.key_shard.specs.Shards.{ShardView}
 use Rattle.sql_keeper.specs.declared.stores.Commit.{Commit}
 use Rattle.sql_keeper.specs.Log.{rows_after, state}
 use Rattle.sql_keeper.specs.Stores.{StoreView}

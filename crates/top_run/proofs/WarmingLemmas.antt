@@ -1,37 +1,36 @@
 -- What is there between two loads: dumps, their lines, and rows that are loaded.
-use Rattle.std.proofs.Common.{ℕ, zero, suc, ◌≡◌, ◌≢◌, ◌≤◌, ◌<◌, ◌+◌, ◌*◌, ◌-◌, ◌^◌, List, [], ◌∷◌, ◌++◌, All, AllPairs, length, map, reverse, take, drop, get_or, refl, sym, ap, subst, ◌∙◌, inl, inr, ⊎_elim, arith, append_assoc, length-append}
-use Rattle.std.specs.Prelude.{Bool, true, false, cond, ◌==◌, ◌||◌, ◌⊎◌, is_none, is_some, Option, Some, None, Result, Ok, Err, IfOk, IfErr, OnOk, IsSome, slice_get, option_map, unwrap_or, codes, decimal}
-use Rattle.std.specs.List.{AllByRecursion, flat_map, filter_map, list_any, remove}
+use Rattle.std.proofs.Common.{ℕ, zero, suc, ◌≡◌, ◌≢◌, ◌≤◌, ◌<◌, ◌+◌, ◌-◌, List, [], ◌∷◌, ◌++◌, All, AllPairs, length, map, reverse, take, get_or, refl, sym, ap, subst, ◌∙◌, inl, inr, ⊎_elim, arith, append_assoc, length-append}
+use Rattle.std.specs.Prelude.{Bool, true, false, cond, ◌==◌, ◌||◌, ◌⊎◌, is_none, is_some, Option, Some, None, Result, Ok, Err, IfErr, OnOk, IsSome, slice_get, option_map, unwrap_or, codes, decimal}
+use Rattle.std.specs.List.{AllByRecursion, remove}
 use Rattle.std.specs.Option.{ForSome}
 use Rattle.std.proofs.lemmas.Bool.{false≢true}
-use Rattle.std.proofs.lemmas.List.{append-nil, length-map, reverse-append, reverse-reverse, take_more}
-use Rattle.std.proofs.lemmas.List.Elements.{All-append, All-cons, All-get_or, All-nil, All-weaker}
+use Rattle.std.proofs.lemmas.List.{append-nil, length-map, reverse-append, take_more}
+use Rattle.std.proofs.lemmas.List.Elements.{All-get_or}
 use Rattle.std.proofs.lemmas.Option.{slice_get-map, slice_get_within, get_or_from_slice_get}
 use Rattle.rows_model.specs.declared.keys.QKey.{QKey}
 use Rattle.rows_model.specs.declared.keys.Sid.{Sid}
 use Rattle.rows_model.specs.Query.{answer}
 use Rattle.rows_model.specs.Rows.{Tables}
 use Rattle.key_shard.specs.declared.steps.Step.{Step}
-use Rattle.key_shard.specs.declared.steps.Step.TheVariants.{Lease, Stored}
 use Rattle.key_shard.specs.Answers.{IsAtHome}
-use Rattle.key_shard.specs.Past.{Terms, entry, next_token, recorded, standing}
+use Rattle.key_shard.specs.Past.{Terms, entry, next_token}
 use Rattle.key_shard.specs.Permit.{Permit}
 use Rattle.key_shard.specs.Shards.{ShardView, past_of, is_out}
 use Rattle.key_freshness.proofs.KnownLemmas.{stands-pushed, stands-within}
 use Rattle.sql_keeper.specs.declared.stores.Commit.{Commit}
 use Rattle.sql_keeper.specs.declared.stores.Phase.{Phase}
 use Rattle.sql_keeper.specs.declared.stores.Phase.TheVariants as phase
-use Rattle.sql_keeper.specs.Sessions.{closed, is_open, may_commit, phase_of}
+use Rattle.sql_keeper.specs.Sessions.{closed, is_open, may_commit}
 use Rattle.sql_keeper.specs.Stores.{Ledger, StoreView, rebased, rows_of as store_rows, with_session}
 use Rattle.bound_hub.specs.Facts.{IsFirst, IsQuiet}
-use Rattle.bound_hub.specs.Ties.{IsNewShard, IsNewStore}
+use Rattle.bound_hub.specs.Ties.{IsNewShard}
 use Rattle.shard_dump.specs.declared.rows.DumpRow.{DumpRow}
 use Rattle.shard_dump.specs.declared.rows.Dump.{Dump}
-use Rattle.shard_dump.specs.Dumps.{dump_of, is_dumped, is_touched, row_on, rows_of}
-use Rattle.shard_dump.specs.Faults.{IsDumpFault, Gives}
+use Rattle.shard_dump.specs.Dumps.{dump_of, is_touched, rows_of}
+use Rattle.shard_dump.specs.Faults.{Gives}
 use Rattle.shard_dump.specs.declared.faults.LoadFault.{LoadFault}
 use Rattle.shard_dump.specs.declared.faults.LoadFault.TheVariants as load_faults
-use Rattle.shard_dump.specs.Loads.{HasLoaded, HasRows, HasSpent, IsBlank, IsEmpty, IsFirstStranger, StopsStore, loaded_entry, loaded_steps, steps_for}
+use Rattle.shard_dump.specs.Loads.{HasLoaded, HasSpent, IsBlank, IsEmpty, IsFirstStranger, StopsStore, loaded_steps, steps_for}
 use Rattle.shard_dump.specs.Loads.{AreRight as AreRightOn}
 use Rattle.shard_dump.specs.Texts.{IsDumpText, dump_text}
 use Rattle.top_run.specs.declared.dumps.Dumped.{Dumped}
@@ -453,7 +452,7 @@ entry_home terms past key legal value stamp found =
     home_among terms key (order past) (order_home terms past legal) (order_has past key (ap (λ (o : Option (List ℕ × ℕ)). is_some o) found))
 
 -- the rows of a shard's dump, where its entries that no later commit touches are right
-to_load : (terms : Terms) (log : List Commit) (shard : ShardView) (dumped : Dumped) (before known_rows : Option Tables) (first opening : Tables)
+pub to_load : (terms : Terms) (log : List Commit) (shard : ShardView) (dumped : Dumped) (before known_rows : Option Tables) (first opening : Tables)
     → shard.terms ≡ terms → 1 ≤ terms.room → Legal shard.terms shard.history → IsDumped log shard dumped → (IsSome known_rows → IsSome before)
     → opening ≡ rows_after first log → (IsSome before → IsRightBehind first log shard)
     → IsToLoad terms log shard.history known_rows opening dumped.dump.rows

@@ -16,6 +16,9 @@ use Rattle.run_words.specs.Words.{AreWords, most_served}
 use Rattle.run_words.specs.Reading.{AreReadAs, IsRead}
 use Rattle.top_run.specs.Works.{WorkEnded}
 use Rattle.top_run.specs.Warms.{WarmEnded}
+use Rattle.cache_file.specs.Files.{SameTexts}
+use Rattle.top_run.specs.Saves.{Files, SavesAt}
+use Rattle.rows_model.specs.Rows.{Tables}
 use Rattle.top_run.specs.declared.runs.Phase.{Phase}
 
 -- The source is as before.
@@ -117,3 +120,16 @@ pub record AreEarlier (words : List (List ℕ)) (earlier : List Phase) : Type 0 
   pub read : Result Words WordsFault
   pub is_reading : IsReading words read
   pub left : LeavesEarlier read earlier
+
+-- What the files at paths have at the end: a server may have saved its cache. Other commands touch none.
+abbrev pub SavedAs : Result Words WordsFault → Status → Option Tables → Left → Files → Files → Type 0
+SavedAs (Ok (words.Serve place spec)) ended rows left old new = SavesAt spec.warm ended spec rows left old new
+SavedAs other ended rows left old new = SameTexts old new
+
+-- So it is, by the words of the command: words that are those of a command, word for word, save what this command does. Others save what
+-- they are read as.
+pub record AreSaved (words : List (List ℕ)) (ended : Status) (rows : Option Tables) (left : Left) (old new : Files) : Type 0 where
+  pub worded : (command : Words) → AreWords words command → SavedAs (Ok command) ended rows left old new
+  pub read : Result Words WordsFault
+  pub is_reading : IsReading words read
+  pub saved : SavedAs read ended rows left old new

@@ -13,6 +13,7 @@ exit_code status.ReadFault = 3
 exit_code status.WriteFault = 4
 exit_code status.DoorFault = 5
 exit_code status.KeepFault = 6
+exit_code status.FileFault = 7
 exit_code status.Memory = 10
 exit_code (status.Spent shard) = 11
 
@@ -25,5 +26,6 @@ status_text status.ReadFault = codes "read fault"
 status_text status.WriteFault = codes "write fault"
 status_text status.DoorFault = codes "door fault"
 status_text status.KeepFault = codes "store fault"
+status_text status.FileFault = codes "file fault"
 status_text status.Memory = codes "memory"
 status_text (status.Spent shard) = codes "spent " ++ decimal shard

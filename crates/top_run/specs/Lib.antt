@@ -4,6 +4,7 @@ pub mod Plays
 pub mod Works
 pub mod Warms
 pub mod Serves
+pub mod Saves
 pub mod Ready
 pub mod Warming
 pub mod Commands

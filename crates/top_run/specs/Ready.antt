@@ -22,6 +22,7 @@ use Rattle.top_run.specs.declared.hubs.HubParts.{HubParts}
 use Rattle.top_run.specs.declared.hubs.Parts.{Parts}
 use Rattle.top_run.specs.declared.serves.Ready.{Ready as ServeReady}
 use Rattle.top_run.specs.declared.works.Ready.{Ready}
+use Rattle.top_run.specs.declared.serves.Begun.TheVariants as cache
 use Rattle.run_words.specs.declared.words.ServeSpec.{ServeSpec}
 use Rattle.run_words.specs.Words.{most_served}
 use Rattle.top_run.specs.Serves.{serve_shape}
@@ -117,3 +118,4 @@ pub record IsServeReady (spec : ServeSpec) (terms : ℕ → Terms) (ready : Serv
   pub parts : AreParts (serve_shape spec) terms ready.parts
   pub none : ready.ends.items ≡ []
   pub room : IfSome (most_served spec.conns) (λ most. most ≤ vec_capacity ready.ends)
+  pub begun : ready.begun ≡ cache.New

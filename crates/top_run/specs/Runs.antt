@@ -272,6 +272,7 @@ Ended status.ReadFault held before after left written =
     TakesAtMost most_taken before.left after.left × IsUnasked before after × IsNotStarted before after left written
 Ended status.WriteFault held before after left written = IsCutOff held before after left written
 Ended status.DoorFault held before after left written = ⊥
+Ended status.FileFault held before after left written = ⊥
 Ended status.KeepFault held before after left written =
     Rose before.keeps_failed after.keeps_failed
     × (IsFailedStart before after left written ⊎ ((turns : List ℕ) × (turns ≢ []) × IsWhole held before after left written turns))
@@ -289,6 +290,11 @@ is_read_fault other = false
 abbrev pub is_write_fault : Status → Bool
 is_write_fault status.WriteFault = true
 is_write_fault other = false
+
+-- Whether a run ended at its cache's file, which failed.
+abbrev pub is_file_fault : Status → Bool
+is_file_fault status.FileFault = true
+is_file_fault other = false
 
 -- Whether a run ended at a door that failed.
 abbrev pub is_door_fault : Status → Bool

@@ -1,5 +1,6 @@
 -- What a server prints and keeps, and how its lines ended.
-use Rattle.std.specs.Prelude.{ℕ, ◌≡◌, ◌≢◌, ◌-◌, ◌^◌, ◌≤◌, ◌⊎◌, min, List, [], ◌∷◌, ◌++◌, map, Option, Some, IfSome, codes, decimal}
+use Rattle.std.specs.Prelude.{ℕ, ◌≡◌, ◌≢◌, ◌-◌, ◌^◌, ◌≤◌, ◌⊎◌, min, List, [], ◌∷◌, ◌++◌, map, false, Option, Some, None, IfSome, codes, decimal, Vec}
+use Rattle.std.specs.Global.{Global}
 use Rattle.iq_outside.specs.declared.sinks.Sink.{Ghosts as Sinks}
 use Rattle.iq_outside.specs.Outside.{Rose}
 use Rattle.rows_model.specs.Rows.{Tables}
@@ -10,9 +11,11 @@ use Rattle.top_run.specs.declared.runs.RunEnd.{RunEnd}
 use Rattle.top_run.specs.declared.runs.Status.{Status}
 use Rattle.top_run.specs.declared.runs.Status.TheVariants as status
 use Rattle.top_run.specs.declared.serves.Served.{Served}
+use Rattle.top_run.specs.declared.serves.Begun.{Begun}
+use Rattle.top_run.specs.declared.serves.Begun.TheVariants as cache
 use Rattle.conn_server.specs.declared.ends.LineEnd.{LineEnd}
 use Rattle.run_words.specs.declared.words.ServeSpec.{ServeSpec}
-use Rattle.top_run.specs.Runs.{Held, Tells, Left, left_at, Prints, CountsWhere, is_write_fault, is_door_fault, IsUnasked, IsNotStarted}
+use Rattle.top_run.specs.Runs.{Held, Tells, Left, left_at, Prints, CountsWhere, is_write_fault, is_door_fault, is_file_fault, IsUnasked, IsNotStarted}
 use Rattle.run_words.specs.Words.{most_served}
 use Rattle.door_workers.specs.Attending.{GivesBack, HaveEnds, IsEnough, count_up_by}
 use Rattle.door_workers.specs.DoorSeen.{DoorSeen}
@@ -30,26 +33,42 @@ serve_keep = Some 256
 unfoldable pub ready_line : List ℕ
 ready_line = line (codes "ready" ∷ [])
 
+-- The line before it, where the cache has a file: that so many entries were taken over from it, or that none was.
+unfoldable pub begun_line : Begun → List ℕ
+begun_line cache.New = []
+begun_line cache.Cold = line (codes "cold" ∷ [])
+begun_line (cache.Warm rows) = line (codes "warm" ∷ decimal rows ∷ [])
+
+-- What is written once the door is bound, by how the cache began.
+abbrev pub ready_text : Begun → List ℕ
+ready_text begun = begun_line begun ++ ready_line
+
+-- A cache begins with a file where one is named, and else without.
+abbrev pub BeginsBy : Option (Vec ℕ Global) → Begun → Type 0
+BeginsBy None begun = begun ≡ cache.New
+BeginsBy (Some path) begun = begun ≢ cache.New
+
 -- The line that is written at the end: how many lines were served.
 unfoldable pub served_line : ℕ → List ℕ
 served_line lines = line (codes "served" ∷ decimal lines ∷ [])
 
 -- All that is written where so many lines were served.
-abbrev pub serve_text : ℕ → List ℕ
-serve_text lines = ready_line ++ served_line lines
+abbrev pub serve_text : Begun → ℕ → List ℕ
+serve_text begun lines = ready_text begun ++ served_line lines
 
 -- What was written before the last line: nothing where no line was served yet, or that the door is bound.
-abbrev pub IsUntold : ℕ → List ℕ → Type 0
-IsUntold lines printed = ((lines ≡ 0) × (printed ≡ [])) ⊎ (printed ≡ ready_line)
+abbrev pub IsUntold : Begun → ℕ → List ℕ → Type 0
+IsUntold begun lines printed = ((lines ≡ 0) × (printed ≡ [])) ⊎ (printed ≡ ready_text begun)
 
--- What was written at such an end, where so many lines were served: all of it, the
--- first bytes of it at a write that failed, and else what stands before the last line.
-abbrev pub IsServedText : Status → ℕ → List ℕ → Type 0
-IsServedText status.Done lines printed = printed ≡ serve_text lines
-IsServedText status.WriteFault lines printed = (more : List ℕ) × (printed ++ more ≡ serve_text lines)
-IsServedText status.DoorFault lines printed = IsUntold lines printed
-IsServedText status.Memory lines printed = IsUntold lines printed
-IsServedText other lines printed = ⊥
+-- What was written at such an end, where so many lines were served: all of it, the first bytes of it at a write that failed, and else
+-- what stands before the last line. Where the cache's file wasn't written, or memory ran out for its text, all of it was.
+abbrev pub IsServedText : Begun → Status → ℕ → List ℕ → Type 0
+IsServedText begun status.Done lines printed = printed ≡ serve_text begun lines
+IsServedText begun status.WriteFault lines printed = (more : List ℕ) × (printed ++ more ≡ serve_text begun lines)
+IsServedText begun status.DoorFault lines printed = IsUntold begun lines printed
+IsServedText begun status.FileFault lines printed = (begun ≢ cache.New) × (printed ≡ serve_text begun lines)
+IsServedText begun status.Memory lines printed = IsUntold begun lines printed ⊎ ((begun ≢ cache.New) × (printed ≡ serve_text begun lines))
+IsServedText begun other lines printed = ⊥
 
 -- The number that is written for so many lines: it stands still at the end of its type.
 abbrev pub line_count : ℕ → ℕ
@@ -59,7 +78,7 @@ line_count lines = min lines (2 ^ 64 - 1)
 -- and each was handed back. There is an end for each of a number of lines, and else there is none. At Done as many were served as were
 -- asked for, or the door said that no more come, as it did where no number was asked for. Where anything was written the door is bound
 -- to the address that was asked for.
-pub record IsAttended (spec : ServeSpec) (ended : Status) (taken_old taken_new : Option (List ℕ))
+pub record IsAttended (spec : ServeSpec) (begun : Begun) (ended : Status) (taken_old taken_new : Option (List ℕ))
     (before after : DoorSeen) (ends : List LineEnd) (written : ℕ) : Type 0 where
   pub lines : ℕ
   pub few : IfSome (most_served spec.conns) (λ most. lines ≤ most)
@@ -69,13 +88,14 @@ pub record IsAttended (spec : ServeSpec) (ended : Status) (taken_old taken_new :
   pub all : ended ≡ status.Done → IsEnough (most_served spec.conns) lines after.ended
   pub printed : List ℕ
   pub bound : printed ≢ [] → after.bound ≡ Some spec.addr.items
-  pub is_text : IsServedText ended (line_count lines) printed
+  pub is_text : IsServedText begun ended (line_count lines) printed
   pub prints : Prints taken_old taken_new printed written
 
 -- The lines of a server were served so, from a door that told this before and this after, and with this sink handed in and back:
 -- what is so of sink, door and lines, and each count of faults rose exactly where that failed.
-pub record HasServed {W : Type 0} (sinks : Sinks W) (spec : ServeSpec) (served : Served) (old new : W) (before after : DoorSeen) : Type 0 where
-  pub attended : IsAttended spec served.status (sinks.taken old) (sinks.taken new) before after served.ends.items served.written
+pub record HasServed {W : Type 0} (sinks : Sinks W) (spec : ServeSpec) (begun : Begun) (served : Served) (old new : W) (before after : DoorSeen) : Type 0 where
+  pub unsaved : is_file_fault served.status ≡ false
+  pub attended : IsAttended spec begun served.status (sinks.taken old) (sinks.taken new) before after served.ends.items served.written
   pub writes : CountsWhere sinks.faults (is_write_fault served.status) old new
   pub doors : CountsWhere (λ (door : DoorSeen). door.faults) (is_door_fault served.status) before after
 
@@ -116,10 +136,12 @@ course_of held before after door_before door_after end = record {
 
 -- A server ended so that had begun. It leaves what a run over a hub leaves whose shards roll.
 pub record IsServed (spec : ServeSpec) (ended : Status) (course : Course) : Type 0 where
+  pub begun : Begun
+  pub begins : BeginsBy spec.warm begun
   pub opening : Tables
   pub failed : ℕ
   pub kept : IsKept (serve_shape spec) serve_keep course.held course.before course.after course.left opening failed
-  pub attended : IsAttended spec ended course.before.taken course.after.taken
+  pub attended : IsAttended spec begun ended course.before.taken course.after.taken
       course.door_before course.door_after course.ends course.written
 
 -- No line was served: the door is as before.
@@ -132,6 +154,7 @@ abbrev pub ServeEnded : Status → ServeSpec → Course → Type 0
 ServeEnded status.Done spec course = IsServed spec status.Done course
 ServeEnded status.WriteFault spec course = IsServed spec status.WriteFault course
 ServeEnded status.DoorFault spec course = IsServed spec status.DoorFault course
+ServeEnded status.FileFault spec course = IsServed spec status.FileFault course
 ServeEnded status.KeepFault spec course =
     Rose course.before.keeps_failed course.after.keeps_failed
     × (course.after.rows ≡ course.before.rows)

@@ -1,9 +1,9 @@
 -- What is there between two loads of which the second takes over what is still right.
-use Rattle.std.specs.Prelude.{ℕ, ◌≡◌, ◌≢◌, ◌<◌, ◌≤◌, ◌-◌, ◌^◌, false, List, [], ◌∷◌, ◌++◌, length, drop, map, reverse, All, AllPairs}
-use Rattle.std.specs.Prelude.{Option, Some, None, IsSome, slice_get, unwrap_or, vec_capacity}
+use Rattle.std.specs.Prelude.{ℕ, ◌≡◌, ◌≢◌, ◌<◌, ◌≤◌, ◌-◌, ◌^◌, false, List, [], ◌∷◌, ◌++◌, length, drop, map, All, AllPairs}
+use Rattle.std.specs.Prelude.{Option, Some, None, IfSome, IsSome, is_none, slice_get, unwrap_or, vec_capacity}
 use Rattle.std.specs.Prelude.{Vec}
 use Rattle.std.specs.Global.{Global}
-use Rattle.std.specs.List.{AllByRecursion, list_any}
+use Rattle.std.specs.List.{list_any}
 use Rattle.std.specs.Option.{ForSome}
 use Rattle.rows_model.specs.declared.keys.QKey.{QKey}
 use Rattle.rows_model.specs.declared.keys.Sid.{Sid}
@@ -21,6 +21,7 @@ use Rattle.sql_keeper.specs.Log.{rows_after, state}
 use Rattle.sql_keeper.specs.Sessions.{is_open}
 use Rattle.sql_keeper.specs.Stores.{StoreView}
 use Rattle.session_client.specs.declared.plans.Plan.{Plan}
+use Rattle.session_client.specs.declared.plans.Shape.{Shape}
 use Rattle.session_client.specs.Plans.{IsPlan}
 use Rattle.core_history.specs.Machine.{log_cap}
 use Rattle.log_word.specs.Passes.{WordView}
@@ -44,9 +45,13 @@ use Rattle.top_run.specs.declared.hubs.HubParts.{HubParts}
 use Rattle.top_run.specs.declared.runs.Phase.{Phase}
 use Rattle.top_run.specs.declared.dumps.Dumped.{Dumped}
 use Rattle.top_run.specs.declared.works.Ready.{Ready}
+use Rattle.top_run.specs.declared.serves.Ready.{Ready as ServeReady}
+use Rattle.run_words.specs.declared.words.ServeSpec.{ServeSpec}
+use Rattle.run_words.specs.Words.{most_served}
+use Rattle.bound_hub.specs.Ties.{IsNewShard}
 use Rattle.top_run.specs.Ready.{IsNewWord}
 use Rattle.top_run.specs.Runs.{Left, Prints}
-use Rattle.top_run.specs.Serves.{phase_left}
+use Rattle.top_run.specs.Serves.{BeginsBy, phase_left, serve_keep, serve_shape}
 use Rattle.top_run.specs.Works.{work_shape, hub_terms, first_spent, AreUnspent, HaveSessions, IsSummary}
 use Rattle.top_run.specs.Warms.{dump_lines, first_of, rows_in}
 
@@ -282,11 +287,55 @@ pub record IsReadyAnew (spec : WorkSpec) (known_rows : Option Tables) (opening :
   pub none : ready.parts.histories.items ≡ []
   pub room : spec.shards ≤ vec_capacity ready.parts.histories
 
--- The name of a hub names what a second load is run with: the store as it was made anew, the ledger and the word, and the steps that the
+-- A server's shard is new, and this is the dump of a shard of its place.
+pub record IsEmptyFor (dump : Dump) (shard : ShardView) : Type 0 where
+  pub new : shard.history ≡ []
+  pub none_out : shard.out ≡ []
+  pub from_one : shard.terms.first ≡ 1
+  pub lively : 1 ≤ shard.terms.life
+  pub room_is : shard.terms.room ≡ 4096
+  pub number : dump.shard ≡ shard.terms.no
+  pub count : dump.count ≡ shard.terms.count
+  pub right : IsDumpText (dump_text dump) dump
+
+-- A shard loaded some rows beside a store, and was this one before.
+pub record IsFilled (known_rows : Option Tables) (opening : Tables) (old new : ShardView) : Type 0 where
+  pub rows : List DumpRow
+  pub loaded : IsLoadedWith known_rows opening rows old new
+
+-- Of a store only sessions that read have begun since, and its keeper was asked, which may have failed.
+pub record AsksOn (old new : StoreView) : Type 0 where
+  pub opening_is : new.ledger.opening ≡ old.ledger.opening
+  pub log_is : new.ledger.log ≡ old.ledger.log
+  pub cap_is : new.ledger.cap ≡ old.ledger.cap
+  pub tells : IsSome new.known_rows → IsSome old.known_rows
+  pub never_falls : old.faults ≤ new.faults
+  pub none_open : ((who : Sid) → is_open who old.ledger.sessions ≡ false) → (who : Sid) → is_open who new.ledger.sessions ≡ false
+
+-- Shards that have their places for their numbers can be handed to a hub that names the steps that they made. Their histories are legal.
+pub record AreToServe (terms : ℕ → Terms) (known_rows : Option Tables) (opening : Tables) (shards : List ShardView) : Type 0 where
+  pub all : AreAll terms shards
+  pub legal : AreLegal shards
+  pub new : (before : ℕ → List Step) → ((place : ℕ) → before place ≡ before_of shards place)
+      → All (IsNewShard opening before (is_none known_rows)) shards
+
+-- There are the shards of a server's hub, new or with what was taken over, beside this store, and room for what it leaves.
+pub record IsServeReadyAnew (spec : ServeSpec) (known_rows : Option Tables) (opening : Tables) (ready : ServeReady) : Type 0 where
+  pub shards : AreToServe (hub_terms (serve_shape spec) serve_keep) known_rows opening ready.parts.hub.shards.items
+  pub as_many : length ready.parts.hub.shards.items ≡ spec.shards
+  pub one_each : ready.parts.hub.ledger.parts ≡ spec.shards
+  pub word : IsNewWord spec.shards ready.parts.hub
+  pub none : ready.parts.histories.items ≡ []
+  pub room : spec.shards ≤ vec_capacity ready.parts.histories
+  pub no_ends : ready.ends.items ≡ []
+  pub for_ends : IfSome (most_served spec.conns) (λ most. most ≤ vec_capacity ready.ends)
+  pub begins : BeginsBy spec.warm ready.begun
+
+-- The name of a hub names what is run over it: the store as it was made anew, the ledger and the word, and the steps that the
 -- shards made.
-pub record NamesAnew (spec : WorkSpec) (store : StoreView) (count start : Option ℕ) (terms : ℕ → Terms) (opening : Tables) (cap : ℕ)
+pub record NamesAnew (shape : Shape) (keep : Option ℕ) (store : StoreView) (count start : Option ℕ) (terms : ℕ → Terms) (opening : Tables) (cap : ℕ)
     (known_rows : Option Tables) (name parts : ℕ) (word : WordView) (before : ℕ → List Step) (begun failed : ℕ) (made : HubParts) : Type 0 where
-  pub terms_are : (place : ℕ) → terms place ≡ hub_terms (work_shape spec) None place
+  pub terms_are : (place : ℕ) → terms place ≡ hub_terms shape keep place
   pub opening_is : store.ledger.opening ≡ opening
   pub cap_is : cap ≡ log_cap
   pub told_is : known_rows ≡ store.known_rows

@@ -262,6 +262,7 @@ WorkEnded status.Usage spec held before after left written = ⊥
 WorkEnded (status.Script row kind) spec held before after left written = ⊥
 WorkEnded status.ReadFault spec held before after left written = ⊥
 WorkEnded status.DoorFault spec held before after left written = ⊥
+WorkEnded status.FileFault spec held before after left written = ⊥
 WorkEnded status.WriteFault spec held before after left written = IsCutShort spec held before after left written
 WorkEnded status.KeepFault spec held before after left written =
     Rose before.keeps_failed after.keeps_failed

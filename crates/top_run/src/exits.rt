@@ -18,6 +18,7 @@ impl Status {
             Status::WriteFault => 4,
             Status::DoorFault => 5,
             Status::KeepFault => 6,
+            Status::FileFault => 7,
             Status::Memory => 10,
             Status::Spent { .. } => 11,
         }
@@ -37,6 +38,7 @@ impl fmt::Display for Status {
             Status::WriteFault => f.write_str("write fault"),
             Status::DoorFault => f.write_str("door fault"),
             Status::KeepFault => f.write_str("store fault"),
+            Status::FileFault => f.write_str("file fault"),
             Status::Spent { shard } => write!(f, "spent {}", shard),
             Status::Memory => f.write_str("memory"),
         }

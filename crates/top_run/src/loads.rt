@@ -13,7 +13,7 @@ use crate::works::Ready;
 use key_shard::Shard;
 use rows_model::Memory;
 use run_inputs::WorkSpec;
-use shard_dump::{DumpRow, LoadFault, dump, load};
+use shard_dump::{DumpRow, LoadFault, load};
 use sql_keeper::{Keeper, Start, Store};
 use std::alloc::Global;
 
@@ -83,7 +83,7 @@ fn load_all<K: Keeper, N: Start>(
 }
 
 /// The shard, once it has loaded these rows.
-fn load_one<K: Keeper, N: Start>(
+pub(crate) fn load_one<K: Keeper, N: Start>(
     store: &mut Store<K, N>,
     shard: Shard,
     rows: Vec<DumpRow>,

@@ -8,7 +8,8 @@ ghost use Rattle.run_words.specs.declared.words.Words.{Words};
 ghost use Rattle.run_words.specs.Words.{AreWords};
 ghost use Rattle.top_run.specs.declared.runs.Status.{Status};
 ghost use Rattle.top_run.specs.Runs.{Ended, Held, Input, told_by, moment, seen, held_at, left_at, IsRead, IsOpened, RoseWhere, CountsWhere, is_read_fault, is_write_fault, is_door_fault};
-ghost use Rattle.top_run.specs.Commands.{AreEarlier, AreLines, AreNoCommand, CommandEnded};
+ghost use Rattle.iq_outside.specs.Outside.{Rose};
+ghost use Rattle.top_run.specs.Commands.{AreEarlier, AreLines, AreNoCommand, AreSaved, CommandEnded};
 ghost use Rattle.top_run.specs.Serves.{course_of};
 ghost use Rattle.door_workers.specs.Attending.{seen_at};
 ghost use Rattle.top_run.specs.Plays.{IsNew, IsFinished, IsStopped, IsUnread, at_write};
@@ -20,6 +21,7 @@ use crate::serves::serve;
 use crate::texts::tell;
 use crate::warms::warm;
 use crate::works::work;
+use cache_file::CacheFile;
 use conn_server::LineEnd;
 use core_history::Core;
 use iq_outside::{Clock, Door, Gate, ReadStop, Sink, Source, read_up_to};
@@ -57,6 +59,8 @@ pub enum Status {
     /// This is the least shard that has no token left to draw. All sessions of the load were run, and its
     /// summary was printed.
     Spent { shard: u32 },
+    /// The server's cache couldn't be written to its file. All was served, and the last line was written.
+    FileFault,
     /// Memory ran out.
     Memory,
 }
@@ -165,12 +169,19 @@ pub fn replay<S: Source, W: Sink, K: Keeper>(
 /// Where the door fails, no more lines are accepted, and those that it gave are served to their end. The
 /// server's shards give up their early steps as they go on: `histories` has the last ones of each.
 ///
+/// Behind `serve` and the words of `--db`, `--warm <path>` names a file of the cache. The server takes its
+/// entries over, if it has the cache of so many shards and each value in it is what the store answers: a line
+/// `warm` with their number is written before `ready`. Else a line `cold` is, and the cache is new. Once all
+/// lines were served and the last line was written, the cache is written to this file: the entries of each shard
+/// that are right for the rows. If that fails the status is `FileFault`, and the file has what it had.
+///
 /// The words that ask for help or for the version write that text. Words that can't be read are a faulty
 /// command line, and nothing is read, written or started.
 pub fn run<
     S: Source,
     W: Sink,
     K: Keeper + Send,
+    F: CacheFile,
     D: Door,
     C: Clock,
     G: Gate,
@@ -182,6 +193,7 @@ pub fn run<
     source: &mut S,
     sink: &mut W,
     keeper: K,
+    file: &mut F,
     door: &mut D,
     clock: &C,
     gate: &G,
@@ -198,6 +210,11 @@ pub fn run<
     ensures unstarted { result.opening ≡ None → result.earlier.items ≡ [] →
         K.is_started result.keeper → K.is_started keeper }
     ensures earlier { AreEarlier (map (λ word. word.items) words.now) result.earlier.items }
+    ensures saves { AreSaved (map (λ word. word.items) words.now) result.status
+        (K.rows result.keeper) (left_at result) (F.text_at file.old) (F.text_at file.new) }
+    ensures file_fault { result.status ≡ Status.FileFault →
+        Rose (F.faults file.old) (F.faults file.new) }
+    ensures file_never_falls { F.faults file.old ≤ F.faults file.new }
     ensures reads { RoseWhere S.faults (is_read_fault result.status) source.old source.new }
     ensures writes { RoseWhere W.faults (is_write_fault result.status) sink.old sink.new }
     ensures doors { RoseWhere D.faults (is_door_fault result.status) door.old door.new }
@@ -222,7 +239,9 @@ pub fn run<
             warm(rt, alloc, &place, &spec, sink, keeper, clock, gate)
         }
         Ok(Words::Serve { place, spec }) => {
-            serve(rt, alloc, &place, &spec, sink, keeper, door, clock, gate)
+            serve(
+                rt, alloc, &place, &spec, sink, keeper, file, door, clock, gate,
+            )
         }
         Ok(Words::Page { text }) => tell(alloc, text.as_slice(), sink, keeper),
         Err(WordsFault::Usage) => not_started(alloc, Status::Usage, keeper),

@@ -2,25 +2,33 @@
 ghost use Rattle.std.specs.Prelude.{◌≡◌, ◌≢◌, ◌≤◌, ◌++◌, ℕ, [], List, Option, Some, None, IfOk, IfSome, IfErr, OnOk, IsSome, is_none, length, vec_capacity};
 ghost use Rattle.std.specs.Bool.{IsFalse};
 ghost use Rattle.std.specs.Option.{ForSome};
+ghost use Rattle.iq_outside.specs.Outside.{Rose};
 ghost use Rattle.rows_model.specs.Rows.{Tables};
 ghost use Rattle.core_history.specs.Machine.{log_cap};
 ghost use Rattle.sql_keeper.specs.Stores.{opened};
 ghost use Rattle.shard_lock.specs.Names.{AreAll, AreLegal, IsNamedStore};
 ghost use Rattle.bound_hub.specs.Ties.{IsNewStore};
 ghost use Rattle.top_run.specs.Ready.{IsServeReady, MakeHub, NamesParts};
-ghost use Rattle.top_run.specs.Runs.{Held, Input, Prints, moment, seen, held_at, IsOpened, RoseWhere, CountsWhere, is_read_fault, is_write_fault, is_door_fault};
-ghost use Rattle.top_run.specs.Serves.{serve_shape, serve_keep, ready_line, served_line, IsServedText, HasServed, course_of, ServeEnded};
+ghost use Rattle.top_run.specs.Runs.{Held, Input, Prints, moment, seen, held_at, IsOpened, RoseWhere, CountsWhere, left_at, is_read_fault, is_write_fault, is_door_fault, is_file_fault};
+ghost use Rattle.top_run.specs.Saves.{SavesAt};
+ghost use Rattle.top_run.specs.Serves.{serve_shape, serve_keep, begun_line, ready_text, served_line, BeginsBy, IsServedText, HasServed, course_of, ServeEnded};
+ghost use Rattle.top_run.specs.Warming.{AreRight, IsAnew, IsServeReadyAnew, NamesAnew};
 ghost use Rattle.run_words.specs.Words.{IsServe, most_served};
 ghost use Rattle.door_workers.specs.Attending.{seen_at};
 ghost use Rattle.door_workers.specs.Ends.{AreServed};
-ghost use Rattle.top_run.specs.Works.{IsNameOf, hub_terms};
+ghost use Rattle.top_run.specs.Works.{hub_terms};
 ghost use Rattle.top_run.specs.declared.runs.Status.{Status};
+ghost use Rattle.top_run.specs.declared.serves.Begun.{Begun};
 
 use crate::endings::{not_started, start_status};
 use crate::hubs::{CAP, HubParts, LIFE, Parts, desks_over, ended_hub, parts_for};
 use crate::printing::print;
 use crate::runs::{RunEnd, Status};
+use crate::saves::saved;
+use crate::summaries::push_field;
+use crate::warm_starts::shards_begun;
 use bound_hub::{BoundHub, BoundName};
+use cache_file::CacheFile;
 use conn_server::LineEnd;
 use door_workers::{Attended, serve_all};
 use iq_outside::{Clock, Door, Gate, Sink};
@@ -32,17 +40,28 @@ use rows_model::Memory;
 use run_words::ServeSpec;
 use session_client::{Desk, Shape};
 use shard_lock::StartOf;
-use sql_keeper::{Keeper, NoStore, Place, Store};
+use sql_keeper::{Keeper, NoStore, Place, Start, Store};
 use std::alloc::Global;
 use std::marker::Brand;
 use std::sync::Wait;
 use std::thread::Threads;
 
 /// How many entries a shard of a server has room for.
-const ROOM: u32 = 4096;
+pub(crate) const ROOM: u32 = 4096;
 
 /// At how many steps in memory a server's shard gives them up.
-const KEEP: u32 = 256;
+pub(crate) const KEEP: u32 = 256;
+
+/// How a server's cache begins.
+#[derive(Clone, Copy)]
+pub enum Begun {
+    /// It has no file, and is new.
+    New,
+    /// It has a file, of which nothing was taken over, and is new.
+    Cold,
+    /// It has so many entries that were taken over from its file.
+    Warm { rows: u64 },
+}
 
 /// What all parts of a server share, and none changes.
 #[derive(Drop)]
@@ -63,9 +82,13 @@ struct Server<'a, C, G, R> {
 /// lines, where a number of them is served, are there before the door is bound, and the first line is
 /// written once it is. The shards roll: at the end the steps are handed out that each has in memory, the
 /// last of its history.
+///
+/// Where a file is named for the cache, it begins with what is right in that, and a line tells so. Once all is
+/// done the cache is written there.
 pub(crate) fn serve<
     W: Sink,
     K: Keeper + Send,
+    F: CacheFile,
     D: Door,
     C: Clock,
     G: Gate,
@@ -77,6 +100,7 @@ pub(crate) fn serve<
     spec: &ServeSpec,
     sink: &mut W,
     keeper: K,
+    file: &mut F,
     door: &mut D,
     clock: &C,
     gate: &G,
@@ -99,6 +123,11 @@ pub(crate) fn serve<
     ensures none_earlier { result.earlier.items ≡ [] }
     ensures no_read_fault { IsFalse (is_read_fault result.status) }
     ensures keeper_never_falls { K.faults keeper ≤ K.faults result.keeper }
+    ensures saves { SavesAt spec.now.warm result.status spec.now (K.rows result.keeper) (left_at result)
+        (F.text_at file.old) (F.text_at file.new) }
+    ensures file_fault { result.status ≡ Status.FileFault →
+        Rose (F.faults file.old) (F.faults file.new) }
+    ensures file_never_falls { F.faults file.old ≤ F.faults file.new }
 {
     let Ok(ready) = ready_for(alloc, spec) else {
         return not_started(alloc, Status::Memory, keeper);
@@ -112,18 +141,19 @@ pub(crate) fn serve<
                 clock,
                 gate,
             };
-            serve_store::<Brand, _, _, _, _, _, _>(&server, sink, store, ready, door)
+            serve_begun::<Brand, _, _, _, _, _, _, _>(&server, sink, store, ready, file, door)
         }
         Err(NoStore { keeper, cause }) => not_started(alloc, start_status(cause), keeper),
     }
 }
 
-/// What a server is run with: the parts of its hub, and room for the ends of all lines, where a number of
-/// them is served.
+/// What a server is run with: the parts of its hub, room for the ends of all lines, where a number of them is
+/// served, and how its cache begins.
 #[derive(Drop)]
 struct Ready {
     parts: Parts,
     ends: Vec<LineEnd>,
+    begun: Begun,
 }
 
 fn ready_for(alloc: Global, spec: &ServeSpec) -> Result<Ready, Memory>
@@ -134,6 +164,7 @@ fn ready_for(alloc: Global, spec: &ServeSpec) -> Result<Ready, Memory>
     Ok(Ready {
         parts: parts_for(alloc, &shape_of(spec), Some(KEEP))?,
         ends: Vec::with_capacity(alloc, most as usize)?,
+        begun: Begun::New,
     })
 }
 
@@ -149,11 +180,12 @@ fn shape_of(spec: &ServeSpec) -> Shape
     }
 }
 
-/// Serves over a store that was just started, and ends.
-fn serve_store<
-    H: BoundName + Send + Sync,
+/// Names the count of faults of a store that was just started, begins the cache, and serves.
+fn serve_begun<
+    N: Start,
     W: Sink,
     K: Keeper + Send,
+    F: CacheFile,
     D: Door,
     C: Clock,
     G: Gate,
@@ -163,14 +195,14 @@ fn serve_store<
     sink: &mut W,
     store: Store<K>,
     ready: Ready,
+    file: &mut F,
     door: &mut D,
 ) -> RunEnd<K>
     requires serve { IsServe server.now.spec.now }
-    requires named { IsNameOf (serve_shape server.now.spec.now) serve_keep
-        store H.terms H.opening H.cap H.known_rows H.start }
+    requires start { N.count ≡ Some store.faults }
     requires new { store.ledger ≡ opened store.ledger.opening log_cap }
-    requires ready { IsServeReady server.now.spec.now H.terms ready }
-    requires parts { NamesParts H.name H.parts H.word H.before H.begun H.failed ready.parts.hub }
+    requires ready { IsServeReady server.now.spec.now
+        (hub_terms (serve_shape server.now.spec.now) serve_keep) ready }
     ensures ended { (unread : Input) (rows : Option Tables) (held : Held) →
         IsOpened held (serve_shape server.now.spec.now) store.ledger.opening store.known_rows →
         let before = moment unread (W.taken sink.old) (W.faults sink.old) rows store.faults in
@@ -188,8 +220,92 @@ fn serve_store<
     ensures none_earlier { result.earlier.items ≡ [] }
     ensures no_read_fault { IsFalse (is_read_fault result.status) }
     ensures keeper_never_falls { store.faults ≤ K.faults result.keeper }
+    ensures saves { SavesAt server.now.spec.now.warm result.status server.now.spec.now (K.rows result.keeper) (left_at result)
+        (F.text_at file.old) (F.text_at file.new) }
+    ensures file_fault { result.status ≡ Status.FileFault →
+        Rose (F.faults file.old) (F.faults file.new) }
+    ensures file_never_falls { F.faults file.old ≤ F.faults file.new }
 {
-    let Ready { parts, ends } = ready;
+    let alloc = server.alloc;
+    let now = server.clock.now().min(u64::MAX - 1);
+    let mut store = store.named::<N>();
+    let Ready { parts, ends, .. } = ready;
+    let Parts { hub, histories } = parts;
+    let HubParts {
+        shards,
+        ledger,
+        word,
+    } = hub;
+    let (shards, begun) = shards_begun(alloc, server.spec, file, &mut store, shards, now);
+    // A store tells of its log that the keeper's rows are those after it.
+    let _ = store.log();
+    // Its count of failed calls is one of its type.
+    let _ = store.failed();
+    let hub = HubParts {
+        shards,
+        ledger,
+        word,
+    };
+    let ready = Ready {
+        parts: Parts { hub, histories },
+        ends,
+        begun,
+    };
+    serve_store::<Brand, _, _, _, _, _, _, _, _>(server, sink, store, ready, file, door)
+}
+
+/// Serves over a store whose log is empty, saves the cache, and ends.
+fn serve_store<
+    H: BoundName + Send + Sync,
+    N: Start,
+    W: Sink,
+    K: Keeper + Send,
+    F: CacheFile,
+    D: Door,
+    C: Clock,
+    G: Gate,
+    R: Threads + Wait + Sync,
+>(
+    server: &Server<'_, C, G, R>,
+    sink: &mut W,
+    store: Store<K, N>,
+    ready: Ready,
+    file: &mut F,
+    door: &mut D,
+) -> RunEnd<K>
+    requires serve { IsServe server.now.spec.now }
+    requires anew { IsAnew store }
+    requires ready { IsServeReadyAnew server.now.spec.now store.known_rows store.ledger.opening ready }
+    requires named { NamesAnew (serve_shape server.now.spec.now) serve_keep store N.count H.start
+        H.terms H.opening H.cap H.known_rows H.name H.parts H.word H.before H.begun H.failed
+        ready.parts.hub }
+    requires never_fell { ForSome N.count (λ start. start ≤ store.faults) }
+    ensures ended { (unread : Input) (rows : Option Tables) (start : ℕ) (held : Held) →
+        N.count ≡ Some start →
+        IsOpened held (serve_shape server.now.spec.now) store.ledger.opening store.known_rows →
+        let before = moment unread (W.taken sink.old) (W.faults sink.old) rows start in
+        let after = seen unread W.Sink K.Keeper sink.new result.keeper in
+        let tells = seen_at D.bound D.lines D.faults D.ended D.closed in
+        ServeEnded result.status server.now.spec.now
+        (course_of held before after (tells door.old) (tells door.new) result) }
+    ensures started { K.is_started result.keeper }
+    ensures began { IsSome result.opening }
+    ensures writes { CountsWhere W.faults (is_write_fault result.status) sink.old sink.new }
+    ensures doors { CountsWhere D.faults (is_door_fault result.status) door.old door.new }
+    ensures lines { D.fresh door.old → AreServed (most_served server.now.spec.now.conns)
+        result.ends.items (D.closed door.old) (D.closed door.new) }
+    ensures command { result.status ≢ Status.Usage }
+    ensures none_earlier { result.earlier.items ≡ [] }
+    ensures no_read_fault { IsFalse (is_read_fault result.status) }
+    ensures keeper_never_falls { ForSome N.count (λ start. start ≤ K.faults result.keeper) }
+    ensures saves { SavesAt server.now.spec.now.warm result.status server.now.spec.now (K.rows result.keeper) (left_at result)
+        (F.text_at file.old) (F.text_at file.new) }
+    ensures file_fault { result.status ≡ Status.FileFault →
+        Rose (F.faults file.old) (F.faults file.new) }
+    ensures file_never_falls { F.faults file.old ≤ F.faults file.new }
+{
+    let alloc = server.alloc;
+    let Ready { parts, ends, begun } = ready;
     let Parts { hub, histories } = parts;
     let Ran {
         store,
@@ -198,23 +314,26 @@ fn serve_store<
     } = serve_over_hub::<H, _, _, _, _, _, _>(
         server,
         sink,
-        store.named::<StartOf<H>>(),
+        store.renamed::<StartOf<H>>(),
         hub,
         door,
         ends,
+        begun,
     );
     let Served {
         status,
         ends,
         written,
     } = served;
+    let path = &server.spec.warm;
+    let status = saved(alloc, file, path, status, shards.as_slice(), store.log());
     ended_hub(
         status,
         store,
         shards,
         histories,
         ends,
-        Vec::new(server.alloc),
+        Vec::new(alloc),
         written,
     )
 }
@@ -252,13 +371,15 @@ fn serve_over_hub<
     parts: HubParts,
     door: &mut D,
     ends: Vec<LineEnd>,
+    begun: Begun,
 ) -> Ran<K, H>
     requires serve { IsServe server.now.spec.now }
     requires store { IsNamedStore H.opening H.cap H.known_rows H.start store }
     requires new { IsNewStore H.begun H.failed store }
     requires parts { MakeHub H.terms H.opening H.before (is_none store.known_rows)
         H.name H.parts H.word parts }
-    requires none_before { (place : ℕ) → H.before place ≡ [] }
+    requires legal { AreLegal parts.shards.items }
+    requires begins { BeginsBy server.now.spec.now.warm begun }
     requires none { ends.items ≡ [] }
     requires room { IfSome (most_served server.now.spec.now.conns)
         (λ most. most ≤ vec_capacity ends) }
@@ -266,8 +387,10 @@ fn serve_over_hub<
     ensures as_many { length result.shards.items ≡ length parts.shards.items }
     ensures all { AreAll H.terms result.shards.items }
     ensures legal { AreLegal result.shards.items }
+    ensures right { IsSome result.store.known_rows →
+        AreRight H.opening result.store.ledger.log result.shards.items }
     ensures served { let tells = seen_at D.bound D.lines D.faults D.ended D.closed in
-        HasServed W.Sink server.now.spec.now result.served sink.old sink.new
+        HasServed W.Sink server.now.spec.now begun result.served sink.old sink.new
         (tells door.old) (tells door.new) }
     ensures lines { D.fresh door.old → AreServed (most_served server.now.spec.now.conns)
         result.served.ends.items (D.closed door.old) (D.closed door.new) }
@@ -279,7 +402,7 @@ fn serve_over_hub<
     } = parts;
     match BoundHub::new(server.alloc, store, shards, ledger, word) {
         Ok((hub, pass)) => {
-            let served = serve_on_desks(server, sink, &hub, pass, door, ends);
+            let served = serve_on_desks(server, sink, &hub, pass, door, ends, begun);
             let (store, shards) = hub.into_parts(Vec::new(server.alloc));
             Ran {
                 store,
@@ -323,14 +446,16 @@ fn serve_on_desks<
     pass: Pass,
     door: &mut D,
     ends: Vec<LineEnd>,
+    begun: Begun,
 ) -> Served
     requires serve { IsServe server.now.spec.now }
+    requires begins { BeginsBy server.now.spec.now.warm begun }
     requires word { pass.word ≡ H.word }
     requires none { ends.items ≡ [] }
     requires room { IfSome (most_served server.now.spec.now.conns)
         (λ most. most ≤ vec_capacity ends) }
     ensures served { let tells = seen_at D.bound D.lines D.faults D.ended D.closed in
-        HasServed W.Sink server.now.spec.now result sink.old sink.new
+        HasServed W.Sink server.now.spec.now begun result sink.old sink.new
         (tells door.old) (tells door.new) }
     ensures lines { D.fresh door.old → AreServed (most_served server.now.spec.now.conns)
         result.ends.items (D.closed door.old) (D.closed door.new) }
@@ -345,7 +470,17 @@ fn serve_on_desks<
     let mut pass = pass;
     let plain = PlainBox::new(Plain::new(alloc, 1));
     match desks_over(rt, alloc, hub, &mut pass, spec.workers, clock, gate) {
-        Ok(mut desks) => { serve_lines(server, sink, desks.as_mut_slice(), &plain, door, ends) }
+        Ok(mut desks) => {
+            serve_lines(
+                server,
+                sink,
+                desks.as_mut_slice(),
+                &plain,
+                door,
+                ends,
+                begun,
+            )
+        }
         Err(Memory) => unserved(ends),
     }
 }
@@ -359,6 +494,7 @@ fn serve_lines<W: Sink, K: Desk + Send, D: Door, C, G, R: Threads + Wait + Sync>
     plain: &PlainBox,
     door: &mut D,
     ends: Vec<LineEnd>,
+    begun: Begun,
 ) -> Served
     requires some { 1 ≤ server.now.spec.now.workers }
     requires as_many { length desks.old ≡ server.now.spec.now.workers }
@@ -366,7 +502,7 @@ fn serve_lines<W: Sink, K: Desk + Send, D: Door, C, G, R: Threads + Wait + Sync>
     requires room { IfSome (most_served server.now.spec.now.conns)
         (λ most. most ≤ vec_capacity ends) }
     ensures served { let tells = seen_at D.bound D.lines D.faults D.ended D.closed in
-        HasServed W.Sink server.now.spec.now result sink.old sink.new
+        HasServed W.Sink server.now.spec.now begun result sink.old sink.new
         (tells door.old) (tells door.new) }
     ensures lines { D.fresh door.old → AreServed (most_served server.now.spec.now.conns)
         result.ends.items (D.closed door.old) (D.closed door.new) }
@@ -377,8 +513,17 @@ fn serve_lines<W: Sink, K: Desk + Send, D: Door, C, G, R: Threads + Wait + Sync>
         spec,
         ..
     } = *server;
+    let Ok(text) = ready_text(alloc, begun) else {
+        return unserved(ends);
+    };
     let mut written = 0;
-    if let Err(status) = open_up(spec.addr.as_slice(), sink, door, &mut written) {
+    if let Err(status) = open_up(
+        spec.addr.as_slice(),
+        text.as_slice(),
+        sink,
+        door,
+        &mut written,
+    ) {
         return Served {
             status,
             ends,
@@ -402,20 +547,23 @@ fn serve_lines<W: Sink, K: Desk + Send, D: Door, C, G, R: Threads + Wait + Sync>
     }
 }
 
-/// Binds the door, and writes that it is bound. Where it can't be bound, nothing is written.
+/// Binds the door, and writes this text. Where it can't be bound, nothing is written.
 fn open_up<W: Sink, D: Door>(
     addr: &[u8],
+    text: &[u8],
     sink: &mut W,
     door: &mut D,
     written: &mut u64,
 ) -> Result<(), Status>
     requires nothing { written.old ≡ 0 }
     ensures told { OnOk result
-        (Prints (W.taken sink.old) (W.taken sink.new) ready_line written.new) }
+        (Prints (W.taken sink.old) (W.taken sink.new) text.now written.new) }
     ensures bound { OnOk result (D.bound door.new ≡ Some addr.now) }
-    ensures halted { IfErr result (λ status. (printed : List ℕ) ×
-        (printed ≢ [] → D.bound door.new ≡ Some addr.now) × IsServedText status 0 printed ×
+    ensures halted { (begun : Begun) → text.now ≡ ready_text begun →
+        IfErr result (λ status. (printed : List ℕ) ×
+        (printed ≢ [] → D.bound door.new ≡ Some addr.now) × IsServedText begun status 0 printed ×
         Prints (W.taken sink.old) (W.taken sink.new) printed written.new) }
+    ensures unsaved { IfErr result (λ status. IsFalse (is_file_fault status)) }
     ensures unbound { IfErr result (λ status. status ≡ Status.DoorFault →
         Prints (W.taken sink.old) (W.taken sink.new) [] written.new) }
     ensures no_line { D.lines door.new ≡ D.lines door.old }
@@ -434,7 +582,7 @@ fn open_up<W: Sink, D: Door>(
     if door.bind(addr).is_err() {
         return Err(Status::DoorFault);
     }
-    match print(sink, written, b"ready\n") {
+    match print(sink, written, text) {
         Ok(()) => Ok(()),
         Err(_) => Err(Status::WriteFault),
     }
@@ -442,10 +590,11 @@ fn open_up<W: Sink, D: Door>(
 
 /// Writes how many lines were served, and answers how the server ends.
 fn close_up<W: Sink>(alloc: Global, sink: &mut W, written: &mut u64, lines: u64) -> Status
-    ensures text { (taken : Option (List ℕ)) →
-        Prints taken (W.taken sink.old) ready_line written.old →
-        (printed : List ℕ) × IsServedText result lines printed ×
+    ensures text { (taken : Option (List ℕ)) (begun : Begun) →
+        Prints taken (W.taken sink.old) (ready_text begun) written.old →
+        (printed : List ℕ) × IsServedText begun result lines printed ×
         Prints taken (W.taken sink.new) printed written.new }
+    ensures unsaved { IsFalse (is_file_fault result) }
     ensures writes { RoseWhere W.faults (is_write_fault result) sink.old sink.new }
     ensures no_door_fault { IsFalse (is_door_fault result) }
     ensures sink_never_falls { W.faults sink.old ≤ W.faults sink.new }
@@ -456,6 +605,35 @@ fn close_up<W: Sink>(alloc: Global, sink: &mut W, written: &mut u64, lines: u64)
     match print(sink, written, line.as_slice()) {
         Ok(()) => Status::Done,
         Err(_) => Status::WriteFault,
+    }
+}
+
+/// What is written once the door is bound: how the cache began, where it has a file, and that the server is
+/// ready.
+fn ready_text(alloc: Global, begun: Begun) -> Result<Vec<u8>, Memory>
+    ensures { IfOk result (λ text. text.items ≡ ready_text begun) }
+{
+    let mut text = begun_line(alloc, begun)?;
+    text.extend_from_slice(b"ready\n")?;
+    Ok(text)
+}
+
+/// The line that tells how the cache began, where it has a file.
+fn begun_line(alloc: Global, begun: Begun) -> Result<Vec<u8>, Memory>
+    ensures { IfOk result (λ text. text.items ≡ begun_line begun) }
+{
+    let mut text = Vec::new(alloc);
+    match begun {
+        Begun::New => Ok(text),
+        Begun::Cold => {
+            text.extend_from_slice(b"cold\n")?;
+            Ok(text)
+        }
+        Begun::Warm { rows } => {
+            push_field(&mut text, b"warm ", rows as u128)?;
+            text.push(b'\n')?;
+            Ok(text)
+        }
     }
 }
 

@@ -327,7 +327,7 @@ fn run_second<
     requires never_fell { ForSome N.count (λ start. start ≤ half.store.faults) }
     requires ready { IsReadyAnew warming.now.spec.now half.store.known_rows half.store.ledger.opening
         (rows_left (left_in half.earlier.items)) ready }
-    requires named { NamesAnew warming.now.spec.now half.store N.count H.start
+    requires named { NamesAnew (work_shape warming.now.spec.now) None half.store N.count H.start
         H.terms H.opening H.cap H.known_rows H.name H.parts H.word H.before H.begun H.failed
         ready.parts.hub }
     ensures ended { (unread : Input) (door : DoorSeen) (rows : Option Tables) (start : ℕ) (held : Held)

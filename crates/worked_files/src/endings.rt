@@ -17,13 +17,14 @@ pub fn told_of(
 ) -> Result<String, Memory> {
     let ends = status_text(alloc, end.status)?;
     let closed = outside.door.closed().len();
+    let saved = outside.file.text().unwrap_or(b"").len();
     let started = if end.opening.is_some() { "yes" } else { "no" };
     let unread = match read_up_to(alloc, &mut outside.source, usize::MAX) {
         Ok(read) => read.text.len(),
         Err(_) => usize::MAX,
     };
     let mut text = format!(in alloc;
-        "ends {ends}\nstarted {started}\ncommits {}\nhistories {}\nearlier {}\nserved {}\nclosed {closed}\nwritten {}\nunread {unread}\n",
+        "ends {ends}\nstarted {started}\ncommits {}\nhistories {}\nearlier {}\nserved {}\nclosed {closed}\nsaved {saved}\nwritten {}\nunread {unread}\n",
         end.log.len(),
         end.histories.len(),
         end.earlier.len(),
@@ -51,6 +52,7 @@ fn status_text(alloc: Global, status: Status) -> Result<String, Memory> {
         Status::WriteFault => "write fault",
         Status::DoorFault => "door fault",
         Status::KeepFault => "store fault",
+        Status::FileFault => "file fault",
         Status::Memory => "memory",
         Status::Spent { .. } => "spent",
     };

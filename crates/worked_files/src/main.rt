@@ -12,8 +12,9 @@
 //! - `pieces 1 5`: how many bytes are read or taken at once. The run is made for each number, of which there
 //!   must be one.
 //! - `room 30`: how many bytes can be printed in all; 4,096 without it.
-//! - `reads fail 2 3`, `writes fail 1`, `keeper fails 3`, `door fails 1`: which calls fail, counted from 1. The
-//!   start of the keeper and the binding of the door are their first calls.
+//! - `reads fail 2 3`, `writes fail 1`, `keeper fails 3`, `door fails 1`, `file fails 2`: which calls fail, counted
+//!   from 1. The start of the keeper and the binding of the door are their first calls. The file is that of a
+//!   cache, at the path `cache`. It isn't there when the run begins.
 //! - `client says quit;`: a connection, and what it sends. Here and below `;` stands for CR LF.
 //!
 //! Each other line tells how the run must end, and there must be a line `ends`:
@@ -23,6 +24,7 @@
 //! - `started yes`, `started no`: whether the store began.
 //! - `commits 2`, `histories 1`, `earlier 1`, `served 3`, `closed 3`: how many commits, histories, earlier loads, ends
 //!   of connections and closed connections are kept.
+//! - `saved 95`: how many bytes the file of the cache has then, where 0 says that it isn't there either.
 //! - `unread 14`: how many bytes of standard input were left there.
 //! - `client told STORED;`, `client ended quit`: what a connection was told, and how it ended.
 #![tactic(auto)]

@@ -1,5 +1,6 @@
-// What is outside of a run: standard input, standard output, and a door with its connections.
+// What is outside of a run: standard input, standard output, a door with its connections, and the file of a cache.
 use crate::settings::numbers;
+use cache_file::MemFile;
 use iq_outside::{Line, ListDoor, MemLine, MemSink, MemSource};
 use rows_model::Memory;
 use std::alloc::Global;
@@ -13,6 +14,7 @@ pub struct Outside {
     pub source: MemSource,
     pub sink: MemSink,
     pub door: ListDoor,
+    pub file: MemFile,
 }
 
 /// The outside of a run with these settings and this input, of which so many bytes are read at once.
@@ -25,7 +27,13 @@ pub fn outside_of(
     let source = source_of(alloc, block, input, piece)?;
     let sink = sink_of(alloc, block, piece)?;
     let door = door_of(alloc, block, piece)?;
-    Ok(Outside { source, sink, door })
+    let file = file_of(alloc, block)?;
+    Ok(Outside {
+        source,
+        sink,
+        door,
+        file,
+    })
 }
 
 fn source_of(alloc: Global, block: &str, input: &[u8], piece: usize) -> Result<MemSource, Memory> {
@@ -59,4 +67,10 @@ fn line_of(alloc: Global, text: &str, piece: usize) -> Result<MemLine, Memory> {
     let source = MemSource::new(text, piece.max(1), Vec::new(alloc));
     let sink = MemSink::new(alloc, ROOM, piece.max(1), Vec::new(alloc))?;
     Ok(MemLine::new(source, sink))
+}
+
+/// The file of a cache, which isn't there yet.
+fn file_of(alloc: Global, block: &str) -> Result<MemFile, Memory> {
+    let path = Vec::from_slice(alloc, b"cache")?;
+    Ok(MemFile::new(path, None, numbers(alloc, block, "file fails")?))
 }

@@ -107,6 +107,7 @@ fn play(
         &mut outside.source,
         &mut outside.sink,
         keeper,
+        &mut outside.file,
         &mut outside.door,
         &clock,
         &OpenGate,

@@ -3,7 +3,7 @@ use rows_model::Memory;
 use std::alloc::Global;
 
 /// What the lines begin with that set a run up.
-const NAMES: [&str; 8] = [
+const NAMES: [&str; 9] = [
     "words",
     "pieces",
     "room",
@@ -11,6 +11,7 @@ const NAMES: [&str; 8] = [
     "writes fail",
     "keeper fails",
     "door fails",
+    "file fails",
     "client says",
 ];
 

@@ -2,8 +2,8 @@ use Rattle.std.proofs.Common.{◌≡◌, ◌∙◌, ◌∷◌, map, ap, refl, sy
 use Rattle.std.specs.Prelude.{option_map}
 use Rattle.clap.specs.Words.{found_of, subcommand_rows_of}
 use Rattle.run_words.specs.Words.{CanBeNamed}
-use Rattle.run_words.specs.Reading.{line_of, place_in, place_of}
-use Rattle.run_words.proofs.ReadLemmas.{given_found, given_none, line_named, no_place, place_is, place_named}
+use Rattle.run_words.specs.Reading.{line_of, path_of, place_in, place_of}
+use Rattle.run_words.proofs.ReadLemmas.{given_found, given_none, line_named, no_place, path_named, place_is, place_named}
 use Rattle.run_words.proofs.reading.command_of.Goals as goal
 
 pub returns-in_default-2-clause-none : goal.returns-in_default-2-clause-none
@@ -24,7 +24,11 @@ returns-clause-found c =
     place_named c.args.matches.now c.in-Some.name.now (found_of c.in-Some.inner.now) c.get_str.result
     c.in-Some.ensures.name c.in-Some.ensures.rows c.get_str.ensures
     ∙ sym named.0 in
-    given_found (subcommand_rows_of c.args.matches.now) _ c.in-Some-2.place c.command_named.result line at named.1 c.command_named.ensures.found
+    let path : path_of (subcommand_rows_of c.args.matches.now) ≡ option_map (λ text. text.now) c.get_str-2.result =
+    path_named c.args.matches.now c.in-Some.name.now (found_of c.in-Some.inner.now) c.get_str-2.result
+    c.in-Some.ensures.name c.in-Some.ensures.rows c.get_str-2.ensures in
+    given_found (subcommand_rows_of c.args.matches.now) _ c.in-Some-2.place _ c.command_named.result line at path named.1
+    c.command_named.ensures.found c.command_named.ensures.path
 
 pub returns-clause-none : goal.returns-clause-none
 returns-clause-none c =
@@ -37,4 +41,7 @@ returns-clause-none c =
     place_named c.args.matches.now c.in-Some.name.now (found_of c.in-Some.inner.now) c.get_str.result
     c.in-Some.ensures.name c.in-Some.ensures.rows c.get_str.ensures
     ∙ sym named.0 in
-    given_none (subcommand_rows_of c.args.matches.now) _ c.in-Some-2.place c.command_named.result line at c.command_named.ensures.none
+    let path : path_of (subcommand_rows_of c.args.matches.now) ≡ option_map (λ text. text.now) c.get_str-2.result =
+    path_named c.args.matches.now c.in-Some.name.now (found_of c.in-Some.inner.now) c.get_str-2.result
+    c.in-Some.ensures.name c.in-Some.ensures.rows c.get_str-2.ensures in
+    given_none (subcommand_rows_of c.args.matches.now) _ c.in-Some-2.place _ c.command_named.result line at path c.command_named.ensures.none

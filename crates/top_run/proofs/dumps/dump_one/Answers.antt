@@ -1,4 +1,4 @@
-use Rattle.std.proofs.Common.{ℕ, List, Err, arith, sym, subst, ◌∙◌}
+use Rattle.std.proofs.Common.{ℕ, List, Err, arith, sym, subst}
 use Rattle.shard_dump.specs.declared.faults.DumpFault.{DumpFault}
 use Rattle.shard_dump.specs.Dumps.{dump_of}
 use Rattle.shard_dump.specs.Faults.{Gives}

@@ -1,6 +1,4 @@
-use Rattle.std.proofs.Common.{arith, ap, sym, ◌∙◌, take}
-use Rattle.std.proofs.lemmas.List.{take_all}
-use Rattle.top_run.specs.Warming.{lines_in}
+use Rattle.std.proofs.Common.{arith}
 use Rattle.top_run.proofs.WarmingLemmas.{lines_more}
 use Rattle.top_run.proofs.dumps.lines_of.Goals as goal
 

@@ -1,4 +1,4 @@
-use Rattle.std.proofs.Common.{Bool, refl, sym, subst}
+use Rattle.std.proofs.Common.{Bool, ap, refl, sym, subst}
 use Rattle.run_words.specs.declared.words.Words.TheVariants as words
 use Rattle.run_words.specs.declared.words.WordsFault.TheVariants as fault
 use Rattle.top_run.specs.declared.runs.Status.{Status}
@@ -6,7 +6,8 @@ use Rattle.top_run.specs.Commands.{IsTextPart}
 use Rattle.door_workers.specs.Attending.{seen_at}
 use Rattle.top_run.specs.Runs.{told_by, RoseWhere}
 use Rattle.top_run.proofs.PrintLemmas.{print_none}
-use Rattle.top_run.proofs.CommandLemmas.{command_ok, command_err, lines_ok, lines_err, load_not_failed, load_no_door, load_no_replay, no_command, server_not_failed, server_no_replay, earlier_ok, earlier_err, warm_not_failed, warm_no_door, warm_no_replay}
+use Rattle.top_run.proofs.CommandLemmas.{command_ok, command_err, lines_ok, lines_err, load_not_failed, load_no_door, load_no_file, load_no_replay, no_command, server_not_failed, server_no_replay, earlier_ok, earlier_err, replay_no_file, saved_ok, saved_err, text_no_file, warm_not_failed, warm_no_file, warm_no_door, warm_no_replay}
+use Rattle.top_run.proofs.SaveLemmas.{is_done}
 use Rattle.top_run.proofs.ServeLemmas.{none_ended}
 use Rattle.top_run.proofs.runs.run.Goals as goal
 
@@ -219,3 +220,55 @@ pub returns-in-Ok-Warm-clause-lines : goal.returns-in-Ok-Warm-clause-lines
 returns-in-Ok-Warm-clause-lines g c = λ fresh.
     lines_ok _ c.read_words.result _ _ _ c.read_words.ensures.accepts c.read_words.ensures.read c.read_words.ensures.usage
     c.in-Ok-Warm.field-0 (words.Warm c.in-Ok-Warm.place c.in-Ok-Warm.spec) c.in-Ok-Warm.is c.in-Ok-Warm.field-0-is (none_ended _ _ _ c.warm.ensures.no_ends refl)
+
+pub returns-in-Ok-Replay-clause-saves : goal.returns-in-Ok-Replay-clause-saves
+returns-in-Ok-Replay-clause-saves g c =
+    saved_ok _ c.read_words.result _ _ _ _ _ c.read_words.ensures.accepts c.read_words.ensures.read c.read_words.ensures.usage
+    c.in-Ok-Replay.field-0 (words.Replay c.in-Ok-Replay.place) c.in-Ok-Replay.is c.in-Ok-Replay.field-0-is (λ path. refl)
+
+pub returns-in-Ok-Work-clause-saves : goal.returns-in-Ok-Work-clause-saves
+returns-in-Ok-Work-clause-saves g c =
+    saved_ok _ c.read_words.result _ _ _ _ _ c.read_words.ensures.accepts c.read_words.ensures.read c.read_words.ensures.usage
+    c.in-Ok-Work.field-0 (words.Work c.in-Ok-Work.place c.in-Ok-Work.spec) c.in-Ok-Work.is c.in-Ok-Work.field-0-is (λ path. refl)
+
+pub returns-in-Ok-Warm-clause-saves : goal.returns-in-Ok-Warm-clause-saves
+returns-in-Ok-Warm-clause-saves g c =
+    saved_ok _ c.read_words.result _ _ _ _ _ c.read_words.ensures.accepts c.read_words.ensures.read c.read_words.ensures.usage
+    c.in-Ok-Warm.field-0 (words.Warm c.in-Ok-Warm.place c.in-Ok-Warm.spec) c.in-Ok-Warm.is c.in-Ok-Warm.field-0-is (λ path. refl)
+
+pub returns-in-Ok-Serve-clause-saves : goal.returns-in-Ok-Serve-clause-saves
+returns-in-Ok-Serve-clause-saves g c =
+    saved_ok _ c.read_words.result _ _ _ _ _ c.read_words.ensures.accepts c.read_words.ensures.read c.read_words.ensures.usage
+    c.in-Ok-Serve.field-0 (words.Serve c.in-Ok-Serve.place c.in-Ok-Serve.spec) c.in-Ok-Serve.is c.in-Ok-Serve.field-0-is c.serve.ensures.saves
+
+pub returns-in-Ok-Page-clause-saves : goal.returns-in-Ok-Page-clause-saves
+returns-in-Ok-Page-clause-saves g c =
+    saved_ok _ c.read_words.result _ _ _ _ _ c.read_words.ensures.accepts c.read_words.ensures.read c.read_words.ensures.usage
+    c.in-Ok-Page.field-0 (words.Page c.in-Ok-Page.text) c.in-Ok-Page.is c.in-Ok-Page.field-0-is (λ path. refl)
+
+pub returns-in-Err-Usage-clause-saves : goal.returns-in-Err-Usage-clause-saves
+returns-in-Err-Usage-clause-saves g c =
+    saved_err _ c.read_words.result _ _ _ _ _ c.read_words.ensures.accepts c.read_words.ensures.read c.read_words.ensures.usage
+    c.in-Err-Usage.field-0 c.in-Err-Usage.is (ap is_done c.not_started.ensures.status) (λ path. refl)
+
+pub returns-in-Err-Memory-clause-saves : goal.returns-in-Err-Memory-clause-saves
+returns-in-Err-Memory-clause-saves g c =
+    saved_err _ c.read_words.result _ _ _ _ _ c.read_words.ensures.accepts c.read_words.ensures.read c.read_words.ensures.usage
+    c.in-Err-Memory.field-0 c.in-Err-Memory.is (ap is_done c.not_started-in-Err-Memory.ensures.status) (λ path. refl)
+
+pub returns-in-Ok-Replay-clause-file_fault : goal.returns-in-Ok-Replay-clause-file_fault
+returns-in-Ok-Replay-clause-file_fault g c = λ is. absurd (replay_no_file c.replay.result.status _ _ _ _ c.replay.result.written c.replay.ensures.ended is)
+
+pub returns-in-Ok-Work-clause-file_fault : goal.returns-in-Ok-Work-clause-file_fault
+returns-in-Ok-Work-clause-file_fault g c = λ is.
+    absurd (load_no_file c.work.result.status c.in-Ok-Work.spec _ _ _ _ c.work.result.written
+    (c.work.ensures.ended (told_by g.S.Source c.args.source.now)) is)
+
+pub returns-in-Ok-Warm-clause-file_fault : goal.returns-in-Ok-Warm-clause-file_fault
+returns-in-Ok-Warm-clause-file_fault g c = λ is.
+    absurd (warm_no_file c.warm.result.status c.in-Ok-Warm.spec _
+    (c.warm.ensures.ended (told_by g.S.Source c.args.source.now) (seen_at g.D.Door.bound g.D.Door.lines g.D.Door.faults g.D.Door.ended g.D.Door.closed c.args.door.now)) is)
+
+pub returns-in-Ok-Page-clause-file_fault : goal.returns-in-Ok-Page-clause-file_fault
+returns-in-Ok-Page-clause-file_fault g c = λ is.
+    absurd (text_no_file _ c.tell.result.status _ _ _ c.tell.result.written (c.tell.ensures.told (told_by g.S.Source c.args.source.now)) is)

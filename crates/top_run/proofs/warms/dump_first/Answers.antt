@@ -2,11 +2,9 @@ use Rattle.std.proofs.Common.{arith, ◌≡◌, List, [], ◌∷◌, ◌++◌, O
 use Rattle.std.specs.Prelude.{IsSome}
 use Rattle.std.proofs.lemmas.List.{append-nil}
 use Rattle.rows_model.specs.Rows.{Tables}
-use Rattle.run_audit.specs.Findings.{histories_in}
 use Rattle.shard_dump.specs.declared.rows.Dump.{Dump}
 use Rattle.sql_keeper.specs.Log.{rows_after}
 use Rattle.top_run.specs.declared.runs.Status.TheVariants as status
-use Rattle.top_run.specs.declared.runs.Status.{Status}
 use Rattle.top_run.specs.Runs.{Left, Prints, moment}
 use Rattle.top_run.specs.Serves.{Course, phase_left}
 use Rattle.top_run.specs.Works.{hub_terms, work_shape}

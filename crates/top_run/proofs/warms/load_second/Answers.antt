@@ -1,15 +1,14 @@
-use Rattle.std.proofs.Common.{arith, ℕ, ◌≡◌, ◌≤◌, List, [], Option, map, refl, sym, ap, subst, ◌∙◌, inl, inr}
+use Rattle.std.proofs.Common.{arith, ℕ, ◌≡◌, ◌≤◌, List, [], Option, map, refl, sym, subst, inl, inr}
 use Rattle.std.specs.Option.{ForSome}
 use Rattle.run_inputs.specs.declared.loads.WorkSpec.{WorkSpec}
 use Rattle.run_inputs.specs.Loads.{IsWork}
 use Rattle.rows_model.specs.Rows.{Tables}
 use Rattle.shard_dump.specs.declared.rows.DumpRow.{DumpRow}
-use Rattle.sql_keeper.specs.Log.{rows_after}
 use Rattle.top_run.specs.declared.runs.Status.TheVariants as status
 use Rattle.top_run.specs.Runs.{moment}
 use Rattle.top_run.specs.Serves.{Course, phase_left}
-use Rattle.top_run.specs.Warms.{IsFirst, dump_lines, dumps_in, next_load, nothing_left}
-use Rattle.top_run.specs.Warming.{AreToLoad, IsReadyAnew, left_in, rows_left}
+use Rattle.top_run.specs.Warms.{IsFirst, dump_lines, dumps_in, nothing_left}
+use Rattle.top_run.specs.Warming.{AreToLoad, IsReadyAnew, left_in}
 use Rattle.top_run.proofs.SecondLemmas.{anew_still, can_load_all, half_still, next_to_load, next_works, rows_are_left}
 use Rattle.top_run.proofs.WarmEnds.{stopped_between}
 use Rattle.top_run.proofs.warms.load_second.Goals as goal

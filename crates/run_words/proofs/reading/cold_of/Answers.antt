@@ -1,6 +1,6 @@
 use Rattle.std.proofs.Common.{arith, map}
 use Rattle.run_words.proofs.WordLemmas.{five_texts, none_served}
-use Rattle.run_words.proofs.reading.serve_of.Goals as goal
+use Rattle.run_words.proofs.reading.cold_of.Goals as goal
 
 pub returns-clause-none : goal.returns-clause-none
 returns-clause-none c =

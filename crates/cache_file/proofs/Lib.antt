@@ -1,0 +1,4 @@
+pub mod FileLemmas
+pub mod PartLemmas
+pub mod LineLemmas
+pub mod WriteLemmas

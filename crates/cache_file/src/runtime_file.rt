@@ -1,0 +1,146 @@
+ghost use Rattle.std.specs.Prelude.{◌≡◌, ◌≢◌, ◌≤◌, ℕ, None, Some, Ok, Err, IfOk, IfErr, IfSome, IfNone, OnOk, OnErr};
+ghost use Rattle.std.specs.IoError.{error_kind};
+ghost use Rattle.std.specs.declared.io.ErrorKind.TheVariants.{NotFound, OutOfMemory};
+ghost use Rattle.iq_outside.specs.declared.failures.ReadStop.TheVariants as stops;
+ghost use Rattle.iq_outside.specs.Outside.{Rose, count_up};
+ghost use Rattle.cache_file.specs.Files.{IsTold, SameTexts, SameElsewhere, untold};
+
+use crate::files::CacheFile;
+use iq_outside::{Failed, ReadStop};
+use std::alloc::Global;
+use std::fs::{self, File, Files, OpenFile};
+use std::io::{self, ErrorKind, Read, Write};
+use std::marker::Model;
+
+/// The files of a runtime. It tells nothing of their texts. Contracts see the count of faults.
+#[derive(Drop)]
+pub struct RuntimeFile<'a, R: Files> {
+    rt: &'a R,
+    faults: u64,
+}
+
+impl<'a, R: Files> Model for RuntimeFile<'a, R> {
+    ghost use Rattle.std.specs.Prelude.{ℕ};
+
+    ghost Value = { ℕ };
+
+    ghost view = { λ file. file.faults };
+}
+
+impl<'a, R: Files> RuntimeFile<'a, R> {
+    /// The files of this runtime.
+    pub fn new(rt: &'a R) -> RuntimeFile<'a, R>
+        ensures { result ≡ 0 }
+    {
+        RuntimeFile { rt, faults: 0 }
+    }
+
+    /// How often it failed.
+    pub fn faults(&self) -> u64
+        ensures { result ≡ self.now }
+    {
+        self.faults
+    }
+}
+
+impl<'a, R: Files> CacheFile for RuntimeFile<'a, R> {
+    ghost text_at = { untold };
+
+    ghost faults = { λ faults. faults };
+
+    /// Reads the file whole. A path that isn't UTF-8 is a fault, and so is each error of the system but
+    /// that there is no such file and that memory ran out.
+    fn read(&mut self, alloc: Global, path: &[u8]) -> Result<Option<Vec<u8>>, ReadStop>
+        ensures text { IfOk result (λ found. IfSome found
+            (λ text. IsTold (untold self.old path.now) text.items)) }
+        ensures none { IfOk result (λ found. IfNone found (untold self.old path.now ≡ None)) }
+        ensures keeps { SameTexts (untold self.old) (untold self.new) }
+        ensures failed_rose { result ≡ Err stops.Failed → Rose self.old self.new }
+        ensures no_fault { (result ≢ Err stops.Failed) → self.new ≡ self.old }
+        ensures never_falls { self.old ≤ self.new }
+
+        ensures failed { result ≡ Err stops.Failed → self.new ≡ count_up self.old }
+    {
+        let answer = found_in(text_in(alloc, self.rt, path));
+        if let Err(ReadStop::Failed) = &answer {
+            self.faults = self.faults.saturating_add(1);
+        }
+        answer
+    }
+
+    /// Writes the text to a new file beside the old one, whose name is the path and `.new`, has the
+    /// system bring it to the disk, and then gives it the path. Each error is a fault, and so are a path
+    /// that isn't UTF-8 and want of memory. After one the new file is removed, where that can be done.
+    fn write(&mut self, alloc: Global, path: &[u8], text: &[u8]) -> Result<(), Failed>
+        ensures saved { OnOk result (IsTold (untold self.new path.now) text.now) }
+        ensures others { OnOk result
+            (SameElsewhere path.now (untold self.old) (untold self.new)) }
+        ensures keeps { OnErr result (SameTexts (untold self.old) (untold self.new)) }
+        ensures failed_rose { OnErr result (Rose self.old self.new) }
+        ensures no_fault { OnOk result (self.new ≡ self.old) }
+        ensures never_falls { self.old ≤ self.new }
+
+        ensures err { OnErr result (self.new ≡ count_up self.old) }
+    {
+        if put(alloc, self.rt, path, text).is_ok() {
+            return Ok(());
+        }
+        self.faults = self.faults.saturating_add(1);
+        Err(Failed)
+    }
+}
+
+// What a read answers, by the system's answer.
+fn found_in(answer: io::Result<Vec<u8>>) -> Result<Option<Vec<u8>>, ReadStop>
+    ensures found { IfOk answer (λ text. result ≡ Ok (Some text)) }
+    ensures no_file { IfErr answer (λ error. error_kind error ≡ NotFound → result ≡ Ok None) }
+    ensures memory { IfErr answer
+        (λ error. error_kind error ≡ OutOfMemory → result ≡ Err stops.Memory) }
+    ensures failed { IfErr answer (λ error. (error_kind error ≢ NotFound)
+        → (error_kind error ≢ OutOfMemory) → result ≡ Err stops.Failed) }
+{
+    match answer {
+        Ok(text) => Ok(Some(text)),
+        Err(error) if error.kind() == ErrorKind::NotFound => Ok(None),
+        Err(error) if error.kind() == ErrorKind::OutOfMemory => Err(ReadStop::Memory),
+        Err(_) => Err(ReadStop::Failed),
+    }
+}
+
+// The path as text, which the system takes.
+fn path_text(path: &[u8]) -> io::Result<&str> {
+    match str::from_utf8(path) {
+        Ok(text) => Ok(text),
+        Err(_) => Err(io::Error::from(ErrorKind::InvalidInput)),
+    }
+}
+
+// All that the file has.
+fn text_in<R: Files>(alloc: Global, rt: &R, path: &[u8]) -> io::Result<Vec<u8>> {
+    let mut file = fs::open(rt, path_text(path)?)?;
+    let mut text = Vec::new(alloc);
+    file.read_to_end(&mut text)?;
+    Ok(text)
+}
+
+// Writes a new file, and puts it in the place of the old one.
+fn put<R: Files>(alloc: Global, rt: &R, path: &[u8], text: &[u8]) -> io::Result<()> {
+    let path = path_text(path)?;
+    let mut new = String::new(alloc);
+    new.push_str(path)?;
+    new.push_str(".new")?;
+    let answer = put_by(rt, new.as_str(), path, text);
+    if answer.is_err() {
+        let _ = fs::remove_file(rt, new.as_str());
+    }
+    answer
+}
+
+// Writes the file `new` and renames it to `path`.
+fn put_by<R: Files>(rt: &R, new: &str, path: &str, text: &[u8]) -> io::Result<()> {
+    let mut file = fs::create(rt, new)?;
+    file.write_all(text)?;
+    file.sync_all()?;
+    drop(file);
+    fs::rename(rt, new, path)
+}

@@ -1,0 +1,71 @@
+-- What a server leaves in the file of its cache.
+use Rattle.std.specs.Prelude.{ℕ, ◌≡◌, List, ◌++◌, map, All, Option, Some, IsSome, slice_get, Vec}
+use Rattle.std.specs.Global.{Global}
+use Rattle.std.specs.Option.{ForSome}
+use Rattle.rows_model.specs.Rows.{Tables}
+use Rattle.rows_model.specs.Query.{answer}
+use Rattle.key_shard.specs.declared.steps.Step.{Step}
+use Rattle.key_shard.specs.Answers.{Legal}
+use Rattle.key_shard.specs.Past.{Terms}
+use Rattle.key_shard.specs.Shards.{ShardView}
+use Rattle.sql_keeper.specs.declared.stores.Commit.{Commit}
+use Rattle.sql_keeper.specs.Log.{rows_after}
+use Rattle.shard_dump.specs.declared.rows.Dump.{Dump}
+use Rattle.shard_dump.specs.Dumps.{dump_of}
+use Rattle.shard_dump.specs.Texts.{IsDumpText, dump_text}
+use Rattle.cache_file.specs.Files.{SameElsewhere, SameTexts}
+use Rattle.cache_file.specs.Texts.{AreDumps, cache_text}
+use Rattle.run_words.specs.declared.words.ServeSpec.{ServeSpec}
+use Rattle.top_run.specs.declared.runs.Status.{Status}
+use Rattle.top_run.specs.declared.runs.Status.TheVariants as status
+use Rattle.top_run.specs.Runs.{Left}
+use Rattle.top_run.specs.Serves.{serve_shape, serve_keep}
+use Rattle.top_run.specs.Warms.{rows_in}
+use Rattle.top_run.specs.Works.{hub_terms}
+
+-- A dump has the rows that are dumped of a shard with these terms, of whose legal history these are the last steps. Where the keeper
+-- tells its rows, each value is right on the rows after the log.
+pub record IsDumpedOf (terms : Terms) (rows : Option Tables) (opening : Tables) (log : List Commit) (steps : List Step) (dump : Dump) : Type 0 where
+  pub given_up : List Step
+  pub legal : Legal terms (given_up ++ steps)
+  pub rows_are : dump.rows ≡ rows_in log (given_up ++ steps)
+  pub right : IsSome rows → All (λ row. row.value ≡ answer row.key (rows_after opening log)) dump.rows
+
+-- The text is that of a cache's file, with the dump of each shard that a server left.
+pub record IsSavedText (spec : ServeSpec) (rows : Option Tables) (left : Left) (text : List ℕ) : Type 0 where
+  pub opening : Tables
+  pub opening_is : left.opening ≡ Some opening
+  pub dumps : List Dump
+  pub are_dumps : AreDumps spec.shards dumps
+  pub text_is : text ≡ cache_text (map dump_text dumps)
+  pub each : (place : ℕ) (steps : List Step) (dump : Dump) → slice_get left.histories place ≡ Some steps → slice_get dumps place ≡ Some dump
+      → IsDumpedOf (hub_terms (serve_shape spec) serve_keep place) rows opening left.log steps dump
+
+-- The text is that of a cache's file, with the dumps of these shards beside this log.
+pub record IsCacheOf (log : List Commit) (shards : List ShardView) (text : List ℕ) : Type 0 where
+  pub text_is : text ≡ cache_text (map (λ shard. dump_text (dump_of log shard)) shards)
+  pub right : All (λ shard. IsDumpText (dump_text (dump_of log shard)) (dump_of log shard)) shards
+
+-- What the files at paths have, where that is told.
+abbrev pub Files : Type 0
+Files = List ℕ → Option (List ℕ)
+
+-- The file at this path has the text of a server's cache, where that is told. Each other file has what it had.
+pub record HasSaved (path : List ℕ) (spec : ServeSpec) (rows : Option Tables) (left : Left) (old new : Files) : Type 0 where
+  pub saved : ForSome (new path) (IsSavedText spec rows left)
+  pub others : SameElsewhere path old new
+
+-- A server that was asked to, and that ended with all done, has saved its cache at the path that was named. Else each file has what it had.
+abbrev pub SavesAt : Option (Vec ℕ Global) → Status → ServeSpec → Option Tables → Left → Files → Files → Type 0
+SavesAt (Some path) status.Done spec rows left old new = HasSaved path.items spec rows left old new
+SavesAt path ended spec rows left old new = SameTexts old new
+
+-- How a server ends that had ended so before its cache was to be saved. Where a file is named and all was done the file is written, or
+-- that failed, or memory ran out. Else nothing is written.
+abbrev pub EndsSaved : Option (Vec ℕ Global) → Status → Status → List Commit → List ShardView → Files → Files → Type 0
+EndsSaved (Some path) status.Done status.Done log shards old new =
+    ForSome (new path.items) (IsCacheOf log shards) × SameElsewhere path.items old new
+EndsSaved (Some path) status.Done status.FileFault log shards old new = SameTexts old new
+EndsSaved (Some path) status.Done status.Memory log shards old new = SameTexts old new
+EndsSaved (Some path) status.Done other log shards old new = ⊥
+EndsSaved path before after log shards old new = (after ≡ before) × SameTexts old new
