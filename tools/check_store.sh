@@ -1,10 +1,9 @@
 #!/bin/sh
 # Checks the rows in a file from outside, by sqlite of Python: files that the store takes and refuses, what it writes,
 # and what is left where it is killed. Checks the file of a server's cache too. By the program that ./iq has ready, or by
-# the one that $IQ names. The last line
-# is 'N passed, M failed', and the status is 1 where one failed. Takes a minute or so; KILLS in the environment
-# says how often a server is killed, 5 times by default. Without python3 and its sqlite nothing is checked, and there
-# are no counts.
+# the one that $IQ names. The last line is 'N passed, M failed', and the status is 1 where one failed. Takes a minute or
+# two; KILLS in the environment says how often a server is killed, 5 times by default. Without python3 and its sqlite
+# nothing is checked, and there are no counts.
 top=$(cd "$(dirname "$0")/.." && pwd) || exit 1
 . "$top/tools/program.sh"
 

@@ -25,6 +25,7 @@ PLACES = 40
 CUTS = 20
 KILLS = 10
 SEED = 12
+ENDED = ("served 1\n", "", 0)
 FAULT = ("served 1\n", "file fault\n", 7)
 TWO = [("profile:2", "m2 0 0"), ("profile:3", "m3 0 0")]
 KINDS = {
@@ -56,7 +57,7 @@ class Folder:
         words = {"path": None, "warm": self.path(), "conns": 1, **words}
         return Server(self.program, **words)
 
-    def serves(self, begun, work=None, end=("served 1\n", "", 0), **words):
+    def serves(self, begun, work=None, end=ENDED, **words):
         """A server begins so, does this work on its one connection, and ends so. What the work gives."""
         with self.server(**words) as server:
             expect(server.begun(), begun)
@@ -339,10 +340,12 @@ def short_file(folder):
 
 
 def taken_for_nothing(folder, name, text):
-    """A file with this text is taken for no cache."""
+    """A file with this text is taken for no cache. What doesn't begin as one stays there."""
     folder.write(text)
+    stays = text and not text.startswith(b"iqcache ")
     try:
-        folder.misses(["profile:2", "friends:3"])
+        folder.misses(["profile:2", "friends:3"], end=FAULT if stays else ENDED)
+        expect(folder.read(), text if stays else cache_text(1, []))
     except Wrong as wrong:
         raise Wrong(f"{name}: {wrong}") from wrong
 
@@ -416,10 +419,30 @@ def no_caches(folder):
 
 
 def folder_in_place(folder):
-    """A folder at the path is no cache, and can't be replaced. It stays, and nothing beside it."""
+    """A folder at the path is no cache. It stays, and nothing beside it."""
     os.mkdir(folder.path())
     folder.fill(["profile:2"], end=FAULT)
     expect((os.listdir(folder.place), os.listdir(folder.path())), (["cache"], []))
+
+
+def rows_in_place(folder):
+    """The rows of the server itself are no cache, and stay."""
+    rows = folder.path("store.db")
+    folder.fill(["profile:2"], path=rows, warm=rows, end=FAULT)
+    expect(query(rows, "SELECT name FROM member ORDER BY id"), [("m1",), ("m2",), ("m3",)])
+    folder.serves("cold", path=rows)
+    expect(folder.read(), cache_text(1, []))
+
+
+def no_ordinary_files(folder):
+    """A pipe isn't waited for, and a device has no end. Both stay what they are."""
+    os.mkfifo(folder.path("pipe"))
+    paths = [folder.path("pipe"), "/dev/null", "/dev/zero"]
+    kinds = [os.stat(path).st_mode for path in paths]
+    for path in paths:
+        folder.fill(["profile:2"], end=FAULT, warm=path)
+    expect([os.stat(path).st_mode for path in paths], kinds)
+    expect(os.listdir(folder.place), ["pipe"])
 
 
 def missing_folder(folder):
@@ -480,16 +503,15 @@ def mounted(place):
 
 
 def no_permission(folder):
-    """A file that can't be read is no cache, and is replaced at the end. A folder that can't be written is a fault."""
+    """A file that can't be read is no cache, and stays. A folder that can't be written is a fault."""
     user = NOBODY if os.getuid() == 0 else None
     folder.fill(["profile:2"])
     kept = folder.read()
     os.chmod(folder.place, 0o777)
     os.chmod(folder.path(), 0o000)
-    folder.misses(user=user)
-    expect(folder.read(), cache_text(1, []))
-    folder.write(kept)
+    folder.misses(user=user, end=FAULT)
     os.chmod(folder.path(), 0o644)
+    expect(folder.read(), kept)
     os.chmod(folder.place, 0o555)
     folder.serves("warm 1", lambda client: fill(client, ["profile:3"]), user=user, end=FAULT)
     os.chmod(folder.place, 0o755)
@@ -526,7 +548,7 @@ def stopped_at_its_end(folder):
             with Client(server) as client:
                 fill(client, keys[1:])
                 quit_all(client)
-            time.sleep(drawn.random() * 0.1)
+            time.sleep(drawn.random() * 0.02)
             server.kill()
         if folder.read() not in (old, whole):
             raise Wrong(f"the file has {len(folder.read())} bytes, neither {len(old)} nor {len(whole)}")
@@ -599,6 +621,8 @@ CHECKS = [
     ("dumps and rows in the wrong place", strangers),
     ("files that are no cache", no_caches),
     ("a folder at the path", folder_in_place),
+    ("the rows at the path", rows_in_place),
+    ("a pipe or a device at the path", no_ordinary_files),
     ("a folder that is missing", missing_folder),
     ("what is beside the file under its new name", new_file_in_place),
     ("a disk that is full", full_disk),

@@ -48,8 +48,8 @@ impl<'a, R: Files> CacheFile for RuntimeFile<'a, R> {
 
     ghost faults = { λ faults. faults };
 
-    /// Reads the file whole. A path that isn't UTF-8 is a fault, and so is each error of the system but
-    /// that there is no such file and that memory ran out.
+    /// Reads the file whole. A path that isn't UTF-8 is a fault, and so are what is no ordinary file, and
+    /// each error of the system but that there is no such file and that memory ran out.
     fn read(&mut self, alloc: Global, path: &[u8]) -> Result<Option<Vec<u8>>, ReadStop>
         ensures text { IfOk result (λ found. IfSome found
             (λ text. IsTold (untold self.old path.now) text.items)) }
@@ -70,7 +70,8 @@ impl<'a, R: Files> CacheFile for RuntimeFile<'a, R> {
 
     /// Writes the text to a new file beside the old one, whose name is the path and `.new`, has the
     /// system bring it to the disk, and then gives it the path. Each error is a fault, and so are a path
-    /// that isn't UTF-8 and want of memory. After one the new file is removed, where that can be done.
+    /// that isn't UTF-8, want of memory, and something at the path that is no cache: rows, say, or a pipe.
+    /// After one the new file is removed, where that can be done.
     fn write(&mut self, alloc: Global, path: &[u8], text: &[u8]) -> Result<(), Failed>
         ensures saved { OnOk result (IsTold (untold self.new path.now) text.now) }
         ensures others { OnOk result
@@ -115,9 +116,13 @@ fn path_text(path: &[u8]) -> io::Result<&str> {
     }
 }
 
-// All that the file has.
+// All that the file has. Only an ordinary file is read: a pipe, say, may have no end.
 fn text_in<R: Files>(alloc: Global, rt: &R, path: &[u8]) -> io::Result<Vec<u8>> {
-    let mut file = fs::open(rt, path_text(path)?)?;
+    let path = path_text(path)?;
+    if !fs::metadata(rt, path)?.is_file() {
+        return Err(io::Error::from(ErrorKind::InvalidInput));
+    }
+    let mut file = fs::open(rt, path)?;
     let mut text = Vec::new(alloc);
     file.read_to_end(&mut text)?;
     Ok(text)
@@ -126,6 +131,9 @@ fn text_in<R: Files>(alloc: Global, rt: &R, path: &[u8]) -> io::Result<Vec<u8>> 
 // Writes a new file, and puts it in the place of the old one.
 fn put<R: Files>(alloc: Global, rt: &R, path: &[u8], text: &[u8]) -> io::Result<()> {
     let path = path_text(path)?;
+    if !may_be_replaced(rt, path)? {
+        return Err(io::Error::from(ErrorKind::AlreadyExists));
+    }
     let mut new = String::new(alloc);
     new.push_str(path)?;
     new.push_str(".new")?;
@@ -134,6 +142,26 @@ fn put<R: Files>(alloc: Global, rt: &R, path: &[u8], text: &[u8]) -> io::Result<
         let _ = fs::remove_file(rt, new.as_str());
     }
     answer
+}
+
+// Whether a cache may take this path: there is nothing, or an ordinary file that is empty or begins as a cache.
+fn may_be_replaced<R: Files>(rt: &R, path: &str) -> io::Result<bool> {
+    match fs::metadata(rt, path) {
+        Ok(found) => Ok(found.is_file() && (found.len() == 0 || begins_as_cache(rt, path)?)),
+        Err(error) if error.kind() == ErrorKind::NotFound => Ok(true),
+        Err(error) => Err(error),
+    }
+}
+
+// Whether the file begins as the text of a cache does.
+fn begins_as_cache<R: Files>(rt: &R, path: &str) -> io::Result<bool> {
+    let mut file = fs::open(rt, path)?;
+    let mut front = [0u8; 8];
+    match file.read_exact(&mut front) {
+        Ok(()) => Ok(front == *b"iqcache "),
+        Err(error) if error.kind() == ErrorKind::UnexpectedEof => Ok(false),
+        Err(error) => Err(error),
+    }
 }
 
 // Writes the file `new` and renames it to `path`.

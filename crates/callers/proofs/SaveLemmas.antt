@@ -1,11 +1,10 @@
 -- What follows from what a server leaves in the file of its cache.
-use Rattle.std.proofs.Common.{◌≡◌, ℕ, ◌<◌, List, length, Option, Some, None, IsSome, slice_get, refl, sym, subst, ◌∙◌}
+use Rattle.std.proofs.Common.{◌≡◌, ℕ, ◌<◌, List, length, Option, Some, None, IsSome, refl, sym, subst, ◌∙◌}
 use Rattle.std.specs.Prelude.{IfSome, Result, Ok, Err, Vec}
 use Rattle.std.specs.Global.{Global}
 use Rattle.std.proofs.lemmas.Option.{slice_get_within}
 use Rattle.rows_model.specs.Rows.{Tables}
 use Rattle.key_freshness.proofs.KnownLemmas.{stands-within}
-use Rattle.shard_dump.specs.declared.rows.Dump.{Dump}
 use Rattle.cache_file.specs.Files.{SameTexts}
 use Rattle.run_words.specs.declared.words.ServeSpec.{ServeSpec}
 use Rattle.run_words.specs.declared.words.Words.{Words}
