@@ -65,7 +65,8 @@ fn load_all<K: Keeper, N: Start>(
 ) -> Result<Vec<Shard>, Memory>
     requires now { now < 2 ^ 64 - 1 }
     requires log { store.old.ledger.log ≡ [] }
-    requires can { CanLoadAll store.old.known_rows store.old.ledger.opening dumps.items shards.items }
+    requires can { CanLoadAll store.old.known_rows store.old.ledger.opening
+        dumps.items shards.items }
     ensures loaded { IfOk result (λ loaded. AreLoaded store.new.known_rows store.new.ledger.opening
         dumps.items shards.items loaded.items) }
     ensures keeps_on { KeepsOn store.old store.new }
@@ -92,8 +93,8 @@ pub(crate) fn load_one<K: Keeper, N: Start>(
     requires now { now < 2 ^ 64 - 1 }
     requires log { store.old.ledger.log ≡ [] }
     requires can { CanLoad store.old.known_rows store.old.ledger.opening rows.items shard }
-    ensures loaded { IfOk result (λ loaded. IsLoadedWith store.new.known_rows store.new.ledger.opening
-        rows.items shard loaded) }
+    ensures loaded { IfOk result (λ loaded. IsLoadedWith store.new.known_rows
+        store.new.ledger.opening rows.items shard loaded) }
     ensures keeps_on { KeepsOn store.old store.new }
 {
     let mut shard = shard;

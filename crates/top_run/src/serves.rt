@@ -123,8 +123,8 @@ pub(crate) fn serve<
     ensures none_earlier { result.earlier.items ≡ [] }
     ensures no_read_fault { IsFalse (is_read_fault result.status) }
     ensures keeper_never_falls { K.faults keeper ≤ K.faults result.keeper }
-    ensures saves { SavesAt spec.now.warm result.status spec.now (K.rows result.keeper) (left_at result)
-        (F.text_at file.old) (F.text_at file.new) }
+    ensures saves { SavesAt spec.now.warm result.status spec.now (K.rows result.keeper)
+        (left_at result) (F.text_at file.old) (F.text_at file.new) }
     ensures file_fault { result.status ≡ Status.FileFault →
         Rose (F.faults file.old) (F.faults file.new) }
     ensures file_never_falls { F.faults file.old ≤ F.faults file.new }
@@ -220,8 +220,8 @@ fn serve_begun<
     ensures none_earlier { result.earlier.items ≡ [] }
     ensures no_read_fault { IsFalse (is_read_fault result.status) }
     ensures keeper_never_falls { store.faults ≤ K.faults result.keeper }
-    ensures saves { SavesAt server.now.spec.now.warm result.status server.now.spec.now (K.rows result.keeper) (left_at result)
-        (F.text_at file.old) (F.text_at file.new) }
+    ensures saves { SavesAt server.now.spec.now.warm result.status server.now.spec.now
+        (K.rows result.keeper) (left_at result) (F.text_at file.old) (F.text_at file.new) }
     ensures file_fault { result.status ≡ Status.FileFault →
         Rose (F.faults file.old) (F.faults file.new) }
     ensures file_never_falls { F.faults file.old ≤ F.faults file.new }
@@ -275,7 +275,8 @@ fn serve_store<
 ) -> RunEnd<K>
     requires serve { IsServe server.now.spec.now }
     requires anew { IsAnew store }
-    requires ready { IsServeReadyAnew server.now.spec.now store.known_rows store.ledger.opening ready }
+    requires ready { IsServeReadyAnew server.now.spec.now
+        store.known_rows store.ledger.opening ready }
     requires named { NamesAnew (serve_shape server.now.spec.now) serve_keep store N.count H.start
         H.terms H.opening H.cap H.known_rows H.name H.parts H.word H.before H.begun H.failed
         ready.parts.hub }
@@ -298,8 +299,8 @@ fn serve_store<
     ensures none_earlier { result.earlier.items ≡ [] }
     ensures no_read_fault { IsFalse (is_read_fault result.status) }
     ensures keeper_never_falls { ForSome N.count (λ start. start ≤ K.faults result.keeper) }
-    ensures saves { SavesAt server.now.spec.now.warm result.status server.now.spec.now (K.rows result.keeper) (left_at result)
-        (F.text_at file.old) (F.text_at file.new) }
+    ensures saves { SavesAt server.now.spec.now.warm result.status server.now.spec.now
+        (K.rows result.keeper) (left_at result) (F.text_at file.old) (F.text_at file.new) }
     ensures file_fault { result.status ≡ Status.FileFault →
         Rose (F.faults file.old) (F.faults file.new) }
     ensures file_never_falls { F.faults file.old ≤ F.faults file.new }

@@ -201,8 +201,8 @@ fn dump_first<N: Start, W: Sink, K: Keeper + Send, C: Clock, G: Gate, R: Threads
     requires run { HasRunLoad warming.now.spec.now first.store first.shards.items }
     requires never_fell { ForSome N.count (λ start. start ≤ first.store.faults) }
     requires rooms { HasRooms first.shards.items first.histories first.earlier }
-    ensures ended { (unread : Input) (door : DoorSeen) (rows : Option Tables) (start : ℕ) (held : Held)
-        (taken : Option (List ℕ)) (failed : ℕ) (found : Finding) (text : List ℕ) →
+    ensures ended { (unread : Input) (door : DoorSeen) (rows : Option Tables) (start : ℕ)
+        (held : Held) (taken : Option (List ℕ)) (failed : ℕ) (found : Finding) (text : List ℕ) →
         N.count ≡ Some start →
         IsOpened held (work_shape warming.now.spec.now) first.store.ledger.opening
         first.store.known_rows →
@@ -250,8 +250,8 @@ fn load_second<N: Start, W: Sink, K: Keeper + Send, C: Clock, G: Gate, R: Thread
     requires never_fell { ForSome N.count (λ start. start ≤ half.store.faults) }
     requires to_load { AreToLoad warming.now.spec.now (left_in half.earlier.items)
         half.store.known_rows half.store.ledger.opening dumps.items }
-    ensures ended { (unread : Input) (door : DoorSeen) (rows : Option Tables) (start : ℕ) (held : Held)
-        (taken : Option (List ℕ)) (failed : ℕ) (opening : Tables) (text : List ℕ) →
+    ensures ended { (unread : Input) (door : DoorSeen) (rows : Option Tables) (start : ℕ)
+        (held : Held) (taken : Option (List ℕ)) (failed : ℕ) (opening : Tables) (text : List ℕ) →
         N.count ≡ Some start →
         IsHalf opening half.store half.earlier.items half.spent →
         IsFirst warming.now.spec.now held half.store.known_rows
@@ -325,13 +325,13 @@ fn run_second<
     requires work { IsWork warming.now.spec.now }
     requires anew { IsAnew half.store }
     requires never_fell { ForSome N.count (λ start. start ≤ half.store.faults) }
-    requires ready { IsReadyAnew warming.now.spec.now half.store.known_rows half.store.ledger.opening
-        (rows_left (left_in half.earlier.items)) ready }
+    requires ready { IsReadyAnew warming.now.spec.now half.store.known_rows
+        half.store.ledger.opening (rows_left (left_in half.earlier.items)) ready }
     requires named { NamesAnew (work_shape warming.now.spec.now) None half.store N.count H.start
         H.terms H.opening H.cap H.known_rows H.name H.parts H.word H.before H.begun H.failed
         ready.parts.hub }
-    ensures ended { (unread : Input) (door : DoorSeen) (rows : Option Tables) (start : ℕ) (held : Held)
-        (taken : Option (List ℕ)) (failed : ℕ) (spec : WorkSpec) (opening : Tables)
+    ensures ended { (unread : Input) (door : DoorSeen) (rows : Option Tables) (start : ℕ)
+        (held : Held) (taken : Option (List ℕ)) (failed : ℕ) (spec : WorkSpec) (opening : Tables)
         (text : List ℕ) →
         N.count ≡ Some start →
         next_load spec ≡ warming.now.spec.now →
