@@ -5,7 +5,7 @@
 
 PROGRAM is a built `iq`. Each of five scripts is run once with no allocation refused, and then again for each: the first
 is refused, then the second alone, and so on, or each STEP-th. So is a server with a connection on which leases, a commit
-and plain commands are said, and two connections behind it. `cc` is needed, for tools/refuse_memory.c. It prints what
+and plain commands are said, and two connections behind it. And so is a server that takes over a cache from a file. `cc` is needed, for tools/refuse_memory.c. It prints what
 it tried, and what came of it. The status is 1 where something ended otherwise than the pages say.
 
 `rt try --fail-alloc N` refuses one allocation of the unproved program, and compiles it anew for each.
@@ -19,6 +19,8 @@ import subprocess
 import sys
 import tempfile
 from concurrent.futures import ThreadPoolExecutor
+
+from cache_text import cache_text
 
 TOP = os.path.dirname(os.path.dirname(os.path.abspath(__file__)))
 SCRIPTS = ("stale_refill", "refresh_then_hit", "deltas_summed", "raised_then_hit", "swept_before_commit")
@@ -204,6 +206,38 @@ def run_server(refusing, at):
         process.communicate()
 
 
+def run_warm(refusing, at):
+    """What came of a refusal to a server with the file of a cache, and how often it asks for memory. At its end the file
+    is the old one, or behind a cold start that of no entries."""
+    path = refusing.numbers(at)
+    kept = path + ".cache"
+    old = cache_text(2, [(f"profile:{member}", f"m{member} 0 0") for member in (1, 2, 3)])
+    with open(kept, "wb") as file:
+        file.write(old)
+    with socket.create_server(("127.0.0.1", 0)) as probe:
+        port = probe.getsockname()[1]
+    process = refusing.start(path, "serve", "--warm", kept, f"127.0.0.1:{port}", "1", "1", "2", "3")
+    try:
+        begun = process.stdout.readline()
+        if begun and process.stdout.readline() == b"ready\n":
+            with socket.create_connection(("127.0.0.1", port), timeout=PATIENCE) as stream:
+                say(stream, b"begin read\r\n")
+        out, err = process.communicate(timeout=PATIENCE)
+    finally:
+        process.kill()
+        process.communicate()
+    with open(kept, "rb") as file:
+        text = file.read()
+    end = (process.returncode, err)
+    if begun not in (b"warm 3\n", b"cold\n", b"") or text not in (old, cache_text(2, []) if begun == b"cold\n" else old):
+        raise Wrong(f"{begun!r}, and the file has {text!r}")
+    if end == (0, b"") and out == b"served 1\n":
+        return UNDISTURBED if begun == b"warm 3\n" else "cold", refusing.count(path)
+    if end in ENDS or end == (7, b"file fault\n"):
+        return err.decode().strip(), refusing.count(path)
+    raise Wrong(f"{end} behind {begun + out!r}")
+
+
 def tell(name, count, tried, results):
     print(f"{name}: {count} allocations, {tried} of them refused, one at a time")
     for what, times in sorted(results.items()):
@@ -249,6 +283,10 @@ def main(program, step="1"):
         if what != UNDISTURBED:
             raise SystemExit(f"the server: {what} with no allocation refused")
         fine.append(sweep("a server and three connections", count, int(step), lambda at: run_server(refusing, at)[0]))
+        what, count = run_warm(refusing, 0)
+        if what != UNDISTURBED:
+            raise SystemExit(f"the server with a cache: {what} with no allocation refused")
+        fine.append(sweep("a server that takes over a cache", count, int(step), lambda at: run_warm(refusing, at)[0]))
     return 0 if all(fine) else 1
 
 
