@@ -21,7 +21,8 @@ static const int OFFERED[] = {2, 3, 5, 11, 13, 17, 19, 23};
 
 static sqlite3 *db;
 static int members;
-static sqlite3_stmt *name_of, *links_from, *links_to, *put_link, *take_link, *set_name, *begin, *commit, *rollback;
+static sqlite3_stmt *name_of, *links_from, *links_to, *links_between, *put_link, *take_link, *set_name;
+static sqlite3_stmt *begin, *commit, *rollback;
 static char text[600000];
 
 static void fail(const char *what)
@@ -86,19 +87,17 @@ static int find_name(int id)
     return found;
 }
 
-/* What the links of a member with one end tell: how many there are of a state, and whether one leads to another. */
+/* How many links of a member with one end there are of a state. */
 struct seen {
     int counts[3];
-    int reaches;
 };
 
-static void look(sqlite3_stmt *statement, int end, int id, int wanted, int other, int *at, struct seen *seen)
+static void look(sqlite3_stmt *statement, int end, int id, int wanted, int *at, struct seen *seen)
 {
     sqlite3_bind_int(statement, 1, id);
     while (sqlite3_step(statement) == SQLITE_ROW) {
         int found = sqlite3_column_int(statement, end), state = sqlite3_column_int(statement, 2);
         seen->counts[state]++;
-        seen->reaches |= found == other;
         if (state == wanted)
             *at += snprintf(text + *at, sizeof text - *at, *at ? ",%d" : "%d", found);
     }
@@ -113,9 +112,9 @@ static void answer(int kind, int id)
     if (kind == 0)
         at = find_name(id);
     if (kind != 2 && kind != 4)
-        look(links_from, 1, id, wanted, 0, &at, &from);
+        look(links_from, 1, id, wanted, &at, &from);
     if (kind != 5)
-        look(links_to, 0, id, wanted, 0, &at, &to);
+        look(links_to, 0, id, wanted, &at, &to);
     if (kind == 0)
         snprintf(text + at, sizeof text - at, " %d %d", from.counts[FRIEND] + to.counts[FRIEND], to.counts[PENDING]);
     if (kind == 3 || kind == 4)
@@ -124,10 +123,11 @@ static void answer(int kind, int id)
 
 static int leads(int a, int b)
 {
-    struct seen seen = {0};
-    int at = 0;
-    look(links_from, 1, a, -1, b, &at, &seen);
-    return seen.reaches;
+    sqlite3_bind_int(links_between, 1, a);
+    sqlite3_bind_int(links_between, 2, b);
+    int found = sqlite3_step(links_between) == SQLITE_ROW && sqlite3_column_int(links_between, 1) == b;
+    sqlite3_reset(links_between);
+    return found;
 }
 
 static void put(int a, int b, int state)
@@ -230,6 +230,7 @@ static void prepare(void)
     name_of = prepared("SELECT name FROM member WHERE id = ?1");
     links_from = prepared("SELECT a, b, st FROM link WHERE a = ?1 ORDER BY a, b");
     links_to = prepared("SELECT a, b, st FROM link WHERE b = ?1 ORDER BY a, b");
+    links_between = prepared("SELECT a, b, st FROM link WHERE a = ?1 AND b = ?2 ORDER BY a, b");
     take_link = prepared("DELETE FROM link WHERE a = ?1 AND b = ?2");
     set_name = prepared("UPDATE member SET name = ?2 WHERE id = ?1");
     begin = prepared("BEGIN");

@@ -2,7 +2,7 @@
 """Measures what a server gains by a cache that it takes over, and what that costs, by hand and on a machine that does
 nothing else.
 
-    python3 tools/measure_warm.py PROGRAM [SECONDS [MEMBERS [SHARDS]]]
+    python3 tools/measure_warm.py PROGRAM [SECONDS [MEMBERS [SHARDS [COMMITS]]]]
 
 PROGRAM is the proved `iq`. The rows lie in a file. A first server stores the profile of as many members as a quarter of
 its shards' room, and leaves its cache. Then a server begins with that cache, and one without, and four clients read
@@ -11,7 +11,8 @@ there were, and how many hit, in the first second and in all.
 
 Behind that a cache is filled as far as its shards' room goes, with keys of all kinds, of MEMBERS (100000) members over
 SHARDS (64) shards. Printed is how long a start takes from its first moment to `ready`, with that cache and without, and
-how long an end takes from the last `quit`.
+how long an end takes from the last `quit`. The last server takes over the full cache too, and a client makes COMMITS
+(20000) renames of its first fifty members, one after another. Printed is how long that one's end takes.
 """
 import os
 import random
@@ -93,6 +94,16 @@ def fill(client, keys):
     expect(client.reply(), "STORED")
 
 
+def rename(client, member, number):
+    """Renames a member in a transaction of its own, and drops her profile."""
+    session = client.begin("write")
+    key = f"profile:{member}"
+    client.send([f"qareg {key} {session}", f"sql {session} rename {member} n{number}", f"dar {key} {session}"])
+    replies = [client.reply() for _ in range(3)]
+    if replies[1] != f"COMMITTED {number}":
+        raise Wrong(f"{replies}")
+
+
 class Bench:
     """Servers over one file of rows and one of a cache."""
 
@@ -117,7 +128,7 @@ class Bench:
         """Fills a new cache, and leaves it in this file. The seconds of the server's end."""
         server, begun, _ = self.start(self.path(name))
         with server, Client(server) as client:
-            expect(begun, "cold")
+            expect(begun, "cold no file")
             fill(client, keys)
             return self.end(server, client)
 
@@ -176,22 +187,31 @@ def measure_ends(bench):
     for name, warm in (("whole", bench.path("whole")), ("cold", bench.path("none")), ("no file", None)):
         server, begun, taken = bench.start(warm)
         with server, Client(server) as client:
-            wanted = f"warm {len(keys)}" if name == "whole" else "cold"
+            wanted = f"warm {len(keys)}" if name == "whole" else "cold no file"
             if warm and begun != wanted:
                 raise Wrong(f"{begun!r} in place of {wanted!r}")
             ends[name] = bench.end(server, client)
         print(f"{begun if warm else name:<16} {taken:>12.2f} {ends[name]:>14.2f}")
 
 
+def measure_commits(bench, commits):
+    server, begun, _ = bench.start(bench.path("whole"))
+    with server, Client(server) as client:
+        for number in range(1, commits + 1):
+            rename(client, number % 50 + 1, number)
+        print(f"{begun}, and {commits} commits: {bench.end(server, client):.2f} s to the end")
+
+
 def main(words):
-    if not 1 <= len(words) <= 4:
+    if not 1 <= len(words) <= 5:
         print(__doc__, file=sys.stderr)
         return 2
-    seconds, members, shards = [*map(int, words[1:]), *(10, 100000, 64)[len(words) - 1 :]]
+    seconds, members, shards, commits = [*map(int, words[1:]), *(10, 100000, 64, 20000)[len(words) - 1 :]]
     with tempfile.TemporaryDirectory() as place:
         bench = Bench(os.path.abspath(words[0]), place, members, shards)
         measure_load(bench, seconds)
         measure_ends(bench)
+        measure_commits(bench, commits)
     return 0
 
 

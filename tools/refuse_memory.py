@@ -32,6 +32,9 @@ UNDISTURBED = "all is as without it"
 # How a program ends for want of memory, by docs/script.md and docs/protocol.md.
 ENDS = {(10, b"memory\n"), (6, b"store fault\n"), (5, b"door fault\n")}
 
+# How a server begins that took nothing over for want of memory: its own, or the store's in a call.
+COLD = (b"cold memory\n", b"cold store fault\n")
+
 # What is said on the first connection, with the reply to it.
 SAID = [
     (b"begin read\r\n", b"SESSION 1\r\n"),
@@ -229,10 +232,10 @@ def run_warm(refusing, at):
     with open(kept, "rb") as file:
         text = file.read()
     end = (process.returncode, err)
-    if begun not in (b"warm 3\n", b"cold\n", b"") or text not in (old, cache_text(2, []) if begun == b"cold\n" else old):
+    if begun not in (b"warm 3\n", *COLD, b"") or text not in (old, cache_text(2, []) if begun in COLD else old):
         raise Wrong(f"{begun!r}, and the file has {text!r}")
     if end == (0, b"") and out == b"served 1\n":
-        return UNDISTURBED if begun == b"warm 3\n" else "cold", refusing.count(path)
+        return UNDISTURBED if begun == b"warm 3\n" else begun.decode().strip(), refusing.count(path)
     if end in ENDS or end == (7, b"file fault\n"):
         return err.decode().strip(), refusing.count(path)
     raise Wrong(f"{end} behind {begun + out!r}")

@@ -18,6 +18,7 @@ from cache_text import body_text, cache_text, dump_text, file_text
 from store_files import (
     NOBODY, Checks, Client, Server, Wrong, expect, is_run_by_nobody, make, query, run,
 )
+from store_files import rows as rows_in
 
 ROOM = 4096
 MANY = 10000
@@ -27,6 +28,7 @@ KILLS = 10
 SEED = 12
 ENDED = ("served 1\n", "", 0)
 FAULT = ("served 1\n", "file fault\n", 7)
+NO_FILE, FILE_FAULT, NO_CACHE, OTHER_ROWS = "cold no file", "cold file fault", "cold no cache", "cold other rows"
 TWO = [("profile:2", "m2 0 0"), ("profile:3", "m3 0 0")]
 KINDS = {
     "profile:2": "m2 0 0", "friends:2": ".", "pending:2": ".", "nfriends:2": "0", "npending:2": "0", "blocked:2": ".",
@@ -67,7 +69,7 @@ class Folder:
             expect(server.end(), end)
         return given
 
-    def fill(self, keys, begun="cold", **words):
+    def fill(self, keys, begun=NO_FILE, **words):
         """A server stores these keys, and leaves them. Their values, as the store answered them."""
         return self.serves(begun, lambda client: fill(client, keys), **words)
 
@@ -76,9 +78,9 @@ class Folder:
         told = self.serves(f"warm {len(wanted)}", lambda client: told_of(client, list(wanted)), **words)
         expect(told, {key: (value, 0) for key, value in wanted.items()})
 
-    def misses(self, keys=("profile:2",), **words):
-        """A server takes nothing over, and misses these keys."""
-        told = self.serves("cold", lambda client: told_of(client, list(keys)), **words)
+    def misses(self, begun, keys=("profile:2",), **words):
+        """A server takes nothing over, says why, and misses these keys."""
+        told = self.serves(begun, lambda client: told_of(client, list(keys)), **words)
         expect(told, {key: "LEASE" for key in keys})
 
 
@@ -161,7 +163,7 @@ def text_of_the_file(folder):
 
 
 def nothing_stored(folder):
-    folder.serves("cold")
+    folder.serves(NO_FILE)
     expect(folder.read(), cache_text(1, []))
     folder.serves("warm 0")
 
@@ -185,13 +187,13 @@ def full_shard(folder):
     folder.write(cache_text(1, rows[:ROOM]))
     folder.hits(dict(rows[:ROOM]), members=ROOM + 1)
     folder.write(cache_text(1, rows))
-    folder.misses(members=ROOM + 1)
+    folder.misses(NO_CACHE, members=ROOM + 1)
 
 
 def on_threads(folder):
     """Four workers store at a time. What each stored is there."""
     with folder.server(conns=4, workers=4, shards=4, members=1000) as server:
-        expect(server.begun(), "cold")
+        expect(server.begun(), NO_FILE)
         clients = [Client(server) for _ in range(4)]
         for number, client in enumerate(clients):
             fill(client, [f"profile:{member}" for member in range(number + 1, 1001, 4)])
@@ -204,14 +206,14 @@ def on_threads(folder):
 
 def plain_items(folder):
     """Plain items go with the server."""
-    folder.serves("cold", lambda client: says(client, ["set a 0 0 1", "x"], ["STORED"]))
+    folder.serves(NO_FILE, lambda client: says(client, ["set a 0 0 1", "x"], ["STORED"]))
     folder.serves("warm 0", lambda client: says(client, ["get a"], ["END"]))
 
 
 def written_behind(folder):
     """What a writer dropped isn't there, and what it refreshed or shifted is, as the commit left it."""
     rows = folder.path("store.db")
-    folder.serves("cold", write_each_way, path=rows, members=4)
+    folder.serves(NO_FILE, write_each_way, path=rows, members=4)
     wanted = {"profile:3": "ann 0 0", "npending:4": "1", "profile:1": "m1 0 0"}
     # (a value that is put is used then, and one that is shifted isn't)
     expect(folder.read(), cache_text(1, [("profile:1", "m1 0 0"), ("npending:4", "1"), ("profile:3", "ann 0 0")]))
@@ -250,7 +252,7 @@ def unanswered_writer(folder):
         session = client.begin("write")
         says(client, [f"qareg profile:2 {session}", f"sql {session} rename 2 bob"], ["GRANTED 3", "COMMITTED 1"])
 
-    folder.serves("cold", leave, path=rows)
+    folder.serves(NO_FILE, leave, path=rows)
     told = folder.serves("warm 1", lambda client: told_of(client, ["profile:1", "profile:2"]), path=rows)
     expect(told, {"profile:1": ("m1 0 0", 0), "profile:2": "LEASE"})
 
@@ -269,15 +271,15 @@ def words_in_any_order(folder):
 
 def other_shards(folder):
     folder.fill(["profile:2", "profile:3"], shards=2)
-    folder.misses(shards=3)
-    folder.fill(["profile:2", "profile:3"], shards=2)
-    folder.misses(shards=1)
+    folder.misses(NO_CACHE, shards=3)
+    folder.fill(["profile:2", "profile:3"], NO_CACHE, shards=2)
+    folder.misses(NO_CACHE, shards=1)
 
 
 def other_members(folder):
     """A member whom the rows hadn't is answered otherwise; others are answered as before."""
     folder.fill(["profile:2", "profile:4"])
-    folder.misses(["profile:4", "profile:2"], members=4)
+    folder.misses(OTHER_ROWS, ["profile:4", "profile:2"], members=4)
     folder.fill(["profile:2"], "warm 0")
     folder.hits({"profile:2": "m2 0 0"}, members=4)
 
@@ -294,7 +296,7 @@ def rows_of_another_server(folder):
             quit_all(client)
         expect(server.end(), ("served 1\n", "", 0))
     expect(folder.read(), kept)
-    folder.misses(["profile:2", "profile:3"], path=rows)
+    folder.misses(OTHER_ROWS, ["profile:2", "profile:3"], path=rows)
 
 
 def rows_by_sqlite(folder):
@@ -302,7 +304,7 @@ def rows_by_sqlite(folder):
     folder.fill(["profile:2", "profile:3"], path=rows)
     kept = folder.read()
     make(rows, ["UPDATE member SET name = 'ann' WHERE id = 2"])
-    folder.misses(["profile:3", "profile:2"], path=rows)
+    folder.misses(OTHER_ROWS, ["profile:3", "profile:2"], path=rows)
     folder.write(kept)
     make(rows, ["UPDATE member SET name = 'm2' WHERE id = 2", "UPDATE member SET name = 'eve' WHERE id = 1"])
     folder.hits(dict(TWO), path=rows)
@@ -344,7 +346,7 @@ def taken_for_nothing(folder, name, text):
     folder.write(text)
     stays = text and not text.startswith(b"iqcache ")
     try:
-        folder.misses(["profile:2", "friends:3"], end=FAULT if stays else ENDED)
+        folder.misses(NO_CACHE, ["profile:2", "friends:3"], end=FAULT if stays else ENDED)
         expect(folder.read(), text if stays else cache_text(1, []))
     except Wrong as wrong:
         raise Wrong(f"{name}: {wrong}") from wrong
@@ -354,9 +356,11 @@ def other_texts(folder):
     """Texts that nearly are those of a cache, with the right digest."""
     two = dump_text(0, 1, TWO)
     right = body_text([two])
-    texts = {
+    others = {
         "a value that the store doesn't answer": cache_text(1, [TWO[0], ("profile:3", "m4 0 0")]),
         "a stale count": cache_text(1, [("profile:2", "m2 1 0")]),
+    }
+    texts = {
         "a key twice": cache_text(1, [TWO[0], TWO[0]]),
         "a key that is none": cache_text(1, [("profile", "m2 0 0")]),
         "a key of nobody": cache_text(1, [("profile:0", "-")]),
@@ -373,10 +377,10 @@ def other_texts(folder):
         "a digest in capitals": upper_digest(file_text(1, right)),
         "lines that end in CR LF": file_text(1, right).replace(b"\n", b"\r\n"),
     }
-    for name, text in texts.items():
+    for name, text in {**others, **texts}.items():
         folder.write(text)
         try:
-            folder.misses(["profile:2", "profile:3"])
+            folder.misses(OTHER_ROWS if name in others else NO_CACHE, ["profile:2", "profile:3"])
         except Wrong as wrong:
             raise Wrong(f"{name}: {wrong}") from wrong
     folder.write(file_text(1, right))
@@ -400,7 +404,7 @@ def strangers(folder):
         [dump_text(0, 2, rows), dump_text(1, 2, [])],
     ):
         folder.write(file_text(2, body_text(dumps)))
-        folder.misses(shards=2, members=8)
+        folder.misses(NO_CACHE, shards=2, members=8)
     folder.write(whole)
     folder.hits(dict(rows), shards=2, members=8)
 
@@ -421,16 +425,16 @@ def no_caches(folder):
 def folder_in_place(folder):
     """A folder at the path is no cache. It stays, and nothing beside it."""
     os.mkdir(folder.path())
-    folder.fill(["profile:2"], end=FAULT)
+    folder.fill(["profile:2"], FILE_FAULT, end=FAULT)
     expect((os.listdir(folder.place), os.listdir(folder.path())), (["cache"], []))
 
 
 def rows_in_place(folder):
     """The rows of the server itself are no cache, and stay."""
     rows = folder.path("store.db")
-    folder.fill(["profile:2"], path=rows, warm=rows, end=FAULT)
+    folder.fill(["profile:2"], NO_CACHE, path=rows, warm=rows, end=FAULT)
     expect(query(rows, "SELECT name FROM member ORDER BY id"), [("m1",), ("m2",), ("m3",)])
-    folder.serves("cold", path=rows)
+    folder.serves(NO_FILE, path=rows)
     expect(folder.read(), cache_text(1, []))
 
 
@@ -440,7 +444,7 @@ def no_ordinary_files(folder):
     paths = [folder.path("pipe"), "/dev/null", "/dev/zero"]
     kinds = [os.stat(path).st_mode for path in paths]
     for path in paths:
-        folder.fill(["profile:2"], end=FAULT, warm=path)
+        folder.fill(["profile:2"], FILE_FAULT, end=FAULT, warm=path)
     expect([os.stat(path).st_mode for path in paths], kinds)
     expect(os.listdir(folder.place), ["pipe"])
 
@@ -450,15 +454,71 @@ def missing_folder(folder):
     expect(os.listdir(folder.place), [])
 
 
-def new_file_in_place(folder):
-    """A file that was left half-written beside it is no matter, and a folder there is."""
-    folder.write(b"iqcache 1 1", "cache.new")
+def rows_under_the_new_name(folder):
+    """The rows of the server itself are where the new file would be. They stay, with what the server wrote to them."""
+    path = folder.path("cache.new")
+    folder.serves(NO_FILE, lambda client: renames(client, 2, "bob", 1, 1), path=path, end=FAULT)
+    wanted = [(1, "m1"), (2, "bob"), (3, "m3")], []
+    expect((rows_in(path), os.path.lexists(folder.path())), (wanted, False))
+    told = folder.serves(NO_FILE, lambda client: client.values(["profile:2", "profile:3"]), path=path, end=FAULT)
+    expect(told, ["bob 0 0", "m3 0 0"])
+    expect((rows_in(path), os.path.lexists(folder.path())), (wanted, False))
+
+
+def strange_new_files(folder):
+    """A file under the new name that doesn't begin as a cache stays byte for byte, whether there was a cache or not."""
+    texts = (b"notes\n", b"\n", b"iqcache", b"iqcachet 1 1\n", b"IQCACHE 1 1\n", bytes(1 << 20))
+    for text in texts:
+        folder.write(text, "cache.new")
+        folder.fill(["profile:2"], end=FAULT)
+        expect((os.listdir(folder.place), folder.read("cache.new")), (["cache.new"], text))
+    os.remove(folder.path("cache.new"))
     folder.fill(["profile:2"])
-    expect(os.listdir(folder.place), ["cache"])
     kept = folder.read()
-    os.mkdir(folder.path("cache.new"))
-    folder.serves("warm 1", lambda client: fill(client, ["profile:3"]), end=FAULT)
-    expect(folder.read(), kept)
+    for text in texts:
+        folder.write(text, "cache.new")
+        folder.serves("warm 1", lambda client: fill(client, ["profile:3"]), end=FAULT)
+        expect((folder.read(), folder.read("cache.new")), (kept, text))
+        expect(sorted(os.listdir(folder.place)), ["cache", "cache.new"])
+
+
+def no_file_under_the_new_name(folder):
+    """A folder, a pipe or a link under the new name stays what it is, and so does what a link leads to."""
+    folder.fill(["profile:2"])
+    kept = folder.read()
+    new, there = folder.path("cache.new"), folder.path("there")
+    folder.write(b"iqcache 1 1", "there")
+    for name, put, remove in (
+        ("a folder", lambda: os.mkdir(new), os.rmdir),
+        ("a pipe", lambda: os.mkfifo(new), os.remove),
+        ("a link to nothing", lambda: os.symlink("nothing", new), os.remove),
+        ("a link to a cache", lambda: os.symlink(there, new), os.remove),
+    ):
+        put()
+        before = os.lstat(new)
+        try:
+            folder.serves("warm 1", lambda client: fill(client, ["profile:3"]), end=FAULT)
+            after = os.lstat(new)
+            expect((after.st_mode, after.st_ino), (before.st_mode, before.st_ino))
+            expect((folder.read(), folder.read("there")), (kept, b"iqcache 1 1"))
+            expect(sorted(os.listdir(folder.place)), ["cache", "cache.new", "there"])
+        except Wrong as wrong:
+            raise Wrong(f"{name}: {wrong}") from wrong
+        remove(new)
+
+
+def half_written(folder):
+    """What a killed server left under the new name is replaced, and after a fault it is gone."""
+    keys = [f"profile:{member}" for member in range(2, 1001)]
+    folder.fill(["profile:1"], members=1000)
+    kept = folder.read()
+    for left in (b"", b"iqcache 1 2 abc", kept[: len(kept) // 2], kept):
+        folder.write(left, "cache.new")
+        folder.serves("warm 1", members=1000)
+        expect((folder.read(), os.listdir(folder.place)), (kept, ["cache"]))
+        folder.write(left, "cache.new")
+        folder.fill(keys, "warm 1", members=1000, most=5000, end=FAULT)
+        expect((folder.read(), os.listdir(folder.place)), (kept, ["cache"]))
 
 
 def full_disk(folder):
@@ -509,7 +569,7 @@ def no_permission(folder):
     kept = folder.read()
     os.chmod(folder.place, 0o777)
     os.chmod(folder.path(), 0o000)
-    folder.misses(user=user, end=FAULT)
+    folder.misses(FILE_FAULT, user=user, end=FAULT)
     os.chmod(folder.path(), 0o644)
     expect(folder.read(), kept)
     os.chmod(folder.place, 0o555)
@@ -624,7 +684,10 @@ CHECKS = [
     ("the rows at the path", rows_in_place),
     ("a pipe or a device at the path", no_ordinary_files),
     ("a folder that is missing", missing_folder),
-    ("what is beside the file under its new name", new_file_in_place),
+    ("the rows under the new name", rows_under_the_new_name),
+    ("a file under the new name that is no cache", strange_new_files),
+    ("a folder, a pipe or a link under the new name", no_file_under_the_new_name),
+    ("what a killed server left under the new name", half_written),
     ("a disk that is full", full_disk),
     ("a small disk", small_disk),
     ("a server that is killed", lambda folder: stopped(folder, signal.SIGKILL)),

@@ -1,7 +1,7 @@
-ghost use Rattle.std.specs.Prelude.{◌≡◌, ◌≢◌, ◌≤◌, ◌⊎◌, ◌↔◌, ◌∷◌, ℕ, List, Option, None, Some, Err, Contains, IfOk, IfSome, IfNone, IsErr, IsFalse, IsTrue, OnOk, OnErr, option_map};
+ghost use Rattle.std.specs.Prelude.{◌≡◌, ◌≢◌, ◌≤◌, ◌⊎◌, ◌↔◌, ◌∷◌, ℕ, List, Option, None, Some, Err, Contains, IfOk, IfSome, IfNone, IsErr, IsSome, IsFalse, IsTrue, OnOk, OnErr, option_map};
 ghost use Rattle.iq_outside.specs.declared.failures.ReadStop.TheVariants as stops;
 ghost use Rattle.iq_outside.specs.Outside.{Rose, count_up};
-ghost use Rattle.cache_file.specs.Files.{IsTold, SameTexts, SameElsewhere, mem_text_at};
+ghost use Rattle.cache_file.specs.Files.{IsAbsent, IsTold, SameTexts, SameElsewhere, mem_found, mem_text_at};
 
 use crate::files::CacheFile;
 use iq_outside::{Failed, ReadStop};
@@ -89,7 +89,7 @@ impl MemFile {
     // What the file at a path has, copied.
     fn copy_of(&self, alloc: Global, path: &[u8]) -> Result<Option<Vec<u8>>, AllocError>
         ensures { IfOk result
-            (λ found. option_map (λ text. text.items) found ≡ mem_text_at self.now path.now) }
+            (λ found. option_map (λ text. text.items) found ≡ mem_found self.now path.now) }
     {
         if self.path.as_slice() != path {
             return Ok(None);
@@ -129,14 +129,15 @@ impl CacheFile for MemFile {
     fn read(&mut self, alloc: Global, path: &[u8]) -> Result<Option<Vec<u8>>, ReadStop>
         ensures text { IfOk result (λ found. IfSome found
             (λ text. IsTold (mem_text_at self.old path.now) text.items)) }
-        ensures none { IfOk result (λ found. IfNone found (mem_text_at self.old path.now ≡ None)) }
+        ensures none { IfOk result (λ found. IfNone found
+            (IsAbsent (mem_text_at self.old path.now))) }
         ensures keeps { SameTexts (mem_text_at self.old) (mem_text_at self.new) }
         ensures failed_rose { result ≡ Err stops.Failed → Rose self.old.faults self.new.faults }
         ensures no_fault { (result ≢ Err stops.Failed) → self.new.faults ≡ self.old.faults }
         ensures never_falls { self.old.faults ≤ self.new.faults }
 
         ensures found { IfOk result (λ found. option_map (λ text. text.items) found
-            ≡ mem_text_at self.old path.now) }
+            ≡ mem_found self.old path.now) }
         ensures fails { (result ≡ Err stops.Failed)
             ↔ Contains self.old.fails (count_up self.old.calls) }
         ensures calls { self.new.calls ≡ count_up self.old.calls }
@@ -154,6 +155,8 @@ impl CacheFile for MemFile {
     /// the copy of the text has no room.
     fn write(&mut self, alloc: Global, path: &[u8], text: &[u8]) -> Result<(), Failed>
         ensures saved { OnOk result (IsTold (mem_text_at self.new path.now) text.now) }
+        ensures tells { OnOk result (IsSome (mem_text_at self.old path.now)
+            → IsSome (mem_text_at self.new path.now)) }
         ensures others { OnOk result
             (SameElsewhere path.now (mem_text_at self.old) (mem_text_at self.new)) }
         ensures keeps { OnErr result (SameTexts (mem_text_at self.old) (mem_text_at self.new)) }

@@ -25,10 +25,7 @@ pub fn read_cache(alloc: Global, text: &[u8], count: u32) -> Result<Vec<Dump>, C
     if line != right.as_slice() {
         return Err(CacheFault::Bad);
     }
-    match dumps_in(alloc, body, count) {
-        Ok(dumps) => Ok(dumps),
-        Err(fault) => Err(fault),
-    }
+    dumps_in(alloc, body, count)
 }
 
 // The dumps in a body.
@@ -69,15 +66,11 @@ fn next_dump(
     let Some((part, rest)) = part_of(text) else {
         return Err(CacheFault::Bad);
     };
-    match dump_in(alloc, part) {
-        Ok(dump) => {
-            if !is_of(&dump, count, shard) {
-                return Err(CacheFault::Bad);
-            }
-            Ok((dump, rest))
-        }
-        Err(fault) => Err(fault),
+    let dump = dump_in(alloc, part)?;
+    if !is_of(&dump, count, shard) {
+        return Err(CacheFault::Bad);
     }
+    Ok((dump, rest))
 }
 
 // The dump of which this is the text.

@@ -1,14 +1,14 @@
-ghost use Rattle.std.specs.Prelude.{◌≡◌, ◌≢◌, ◌≤◌, ℕ, None, Some, Ok, Err, IfOk, IfErr, IfSome, IfNone, OnOk, OnErr};
+ghost use Rattle.std.specs.Prelude.{◌≡◌, ◌≢◌, ◌≤◌, ℕ, None, Some, Ok, Err, IfOk, IfErr, IfSome, IfNone, IsSome, OnOk, OnErr};
 ghost use Rattle.std.specs.IoError.{error_kind};
 ghost use Rattle.std.specs.declared.io.ErrorKind.TheVariants.{NotFound, OutOfMemory};
 ghost use Rattle.iq_outside.specs.declared.failures.ReadStop.TheVariants as stops;
 ghost use Rattle.iq_outside.specs.Outside.{Rose, count_up};
-ghost use Rattle.cache_file.specs.Files.{IsTold, SameTexts, SameElsewhere, untold};
+ghost use Rattle.cache_file.specs.Files.{IsAbsent, IsTold, SameTexts, SameElsewhere, untold};
 
 use crate::files::CacheFile;
 use iq_outside::{Failed, ReadStop};
 use std::alloc::Global;
-use std::fs::{self, File, Files, OpenFile};
+use std::fs::{self, File, Files, Metadata, OpenFile};
 use std::io::{self, ErrorKind, Read, Write};
 use std::marker::Model;
 
@@ -53,7 +53,7 @@ impl<'a, R: Files> CacheFile for RuntimeFile<'a, R> {
     fn read(&mut self, alloc: Global, path: &[u8]) -> Result<Option<Vec<u8>>, ReadStop>
         ensures text { IfOk result (λ found. IfSome found
             (λ text. IsTold (untold self.old path.now) text.items)) }
-        ensures none { IfOk result (λ found. IfNone found (untold self.old path.now ≡ None)) }
+        ensures none { IfOk result (λ found. IfNone found (IsAbsent (untold self.old path.now))) }
         ensures keeps { SameTexts (untold self.old) (untold self.new) }
         ensures failed_rose { result ≡ Err stops.Failed → Rose self.old self.new }
         ensures no_fault { (result ≢ Err stops.Failed) → self.new ≡ self.old }
@@ -68,12 +68,16 @@ impl<'a, R: Files> CacheFile for RuntimeFile<'a, R> {
         answer
     }
 
-    /// Writes the text to a new file beside the old one, whose name is the path and `.new`, has the
-    /// system bring it to the disk, and then gives it the path. Each error is a fault, and so are a path
-    /// that isn't UTF-8, want of memory, and something at the path that is no cache: rows, say, or a pipe.
-    /// After one the new file is removed, where that can be done.
+    /// Makes a new file beside the old one, whose name is the path and `.new`. Writes the text to it, has
+    /// the system bring it to the disk, and then gives it the path. Each error is a fault, and so are a
+    /// path that isn't UTF-8 and want of memory. What is at one of the two names stays, and is a fault,
+    /// where it is neither empty nor the front of a cache: rows, say, or a pipe. At the new name a link
+    /// stays too, and what was left there of an earlier write is removed. What another program puts there
+    /// later is a fault, and stays. The new file is removed after an error, where that can be done.
     fn write(&mut self, alloc: Global, path: &[u8], text: &[u8]) -> Result<(), Failed>
         ensures saved { OnOk result (IsTold (untold self.new path.now) text.now) }
+        ensures tells { OnOk result
+            (IsSome (untold self.old path.now) → IsSome (untold self.new path.now)) }
         ensures others { OnOk result
             (SameElsewhere path.now (untold self.old) (untold self.new)) }
         ensures keeps { OnErr result (SameTexts (untold self.old) (untold self.new)) }
@@ -137,20 +141,36 @@ fn put<R: Files>(alloc: Global, rt: &R, path: &[u8], text: &[u8]) -> io::Result<
     let mut new = String::new(alloc);
     new.push_str(path)?;
     new.push_str(".new")?;
-    let answer = put_by(rt, new.as_str(), path, text);
-    if answer.is_err() {
-        let _ = fs::remove_file(rt, new.as_str());
-    }
-    answer
+    remove_leftover(rt, new.as_str())?;
+    put_by(rt, new.as_str(), path, text)
 }
 
-// Whether a cache may take this path: there is nothing, or an ordinary file that is empty or begins as a cache.
+// Whether a cache may take this path: there is nothing, or what gives way to one.
 fn may_be_replaced<R: Files>(rt: &R, path: &str) -> io::Result<bool> {
     match fs::metadata(rt, path) {
-        Ok(found) => Ok(found.is_file() && (found.len() == 0 || begins_as_cache(rt, path)?)),
+        Ok(found) => gives_way(rt, path, &found),
         Err(error) if error.kind() == ErrorKind::NotFound => Ok(true),
         Err(error) => Err(error),
     }
+}
+
+// Removes what an earlier write left at this path. A link isn't followed: what else is there stays.
+fn remove_leftover<R: Files>(rt: &R, path: &str) -> io::Result<()> {
+    match fs::symlink_metadata(rt, path) {
+        Ok(found) => {
+            if !gives_way(rt, path, &found)? {
+                return Err(io::Error::from(ErrorKind::AlreadyExists));
+            }
+            fs::remove_file(rt, path)
+        }
+        Err(error) if error.kind() == ErrorKind::NotFound => Ok(()),
+        Err(error) => Err(error),
+    }
+}
+
+// Whether what was found there gives way to a cache: an ordinary file that is empty or begins as one.
+fn gives_way<R: Files>(rt: &R, path: &str, found: &Metadata) -> io::Result<bool> {
+    Ok(found.is_file() && (found.len() == 0 || begins_as_cache(rt, path)?))
 }
 
 // Whether the file begins as the text of a cache does.
@@ -164,9 +184,24 @@ fn begins_as_cache<R: Files>(rt: &R, path: &str) -> io::Result<bool> {
     }
 }
 
-// Writes the file `new` and renames it to `path`.
+// Makes the file `new`, where nothing is, and brings the text to `path` by it. After an error it is gone.
 fn put_by<R: Files>(rt: &R, new: &str, path: &str, text: &[u8]) -> io::Result<()> {
-    let mut file = fs::create(rt, new)?;
+    let file = File::create_new(rt, new)?;
+    let answer = bring(rt, file, text, new, path);
+    if answer.is_err() {
+        let _ = fs::remove_file(rt, new);
+    }
+    answer
+}
+
+// Writes the text to the file, brings it to the disk, and renames it from `new` to `path`.
+fn bring<R: Files>(
+    rt: &R,
+    mut file: R::File,
+    text: &[u8],
+    new: &str,
+    path: &str,
+) -> io::Result<()> {
     file.write_all(text)?;
     file.sync_all()?;
     drop(file);

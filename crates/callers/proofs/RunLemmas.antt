@@ -230,7 +230,8 @@ same_of_usage (Err fault.Memory) ended courses h is = (place.Fresh, (h.1 place.F
 
 -- a server that ended Done
 pub server_done : (ended : Status) (spec : ServeSpec) (course : Course) → ServeEnded ended spec course → ended ≡ status.Done
-    → IsDoneServer spec course.before.taken course.after.taken course.door_after.ended course.ends course.left.histories course.written
+    → IsDoneServer spec course.before.taken course.after.taken course.files_before course.files_after course.after.rows course.left course.door_after.ended
+    course.ends course.written
 server_done ended spec course h is =
     let served = subst (λ (e : Status). ServeEnded e spec course) is h in
     record {
@@ -238,8 +239,11 @@ server_done ended spec course h is =
       few = served.attended.few;
       have_ends = served.attended.have_ends;
       served = served.attended.all refl;
+      opening = served.opening;
+      opening_is = served.kept.opening_is;
+      failed = served.failed;
       begun = served.begun;
-      begins = served.begins;
+      begins_as = served.begins_as;
       prints = subst (λ (bytes : List ℕ). Prints course.before.taken course.after.taken bytes course.written) served.attended.is_text served.attended.prints;
       as_many = served.kept.as_many;
       legal = served.kept.legal;

@@ -14,7 +14,8 @@ use Rattle.top_run.specs.Commands.{SavedAs}
 use Rattle.top_run.specs.declared.runs.Status.{Status}
 use Rattle.top_run.specs.declared.runs.Status.TheVariants as status
 use Rattle.top_run.specs.Runs.{Left}
-use Rattle.top_run.specs.Saves.{Files, IsSavedText, SavesAt}
+use Rattle.top_run.specs.Begins.{Files}
+use Rattle.top_run.specs.Saves.{IsSavedText, SavesAt}
 use Rattle.top_run.specs.Serves.{Course, IsServed, ServeEnded}
 use Rattle.callers.specs.Runs.{IsRightCache, HasSavedRight}
 
@@ -72,4 +73,8 @@ saved_right ended spec course old new h saves is started =
     by : (path : Option (Vec ℕ Global)) → SavesAt path status.Done spec course.after.rows course.left old new
         → IfSome path (λ path. HasSavedRight path.items spec course.left old new)
     by None h = tt
-    by (Some path) h = record { saved = λ text told. right_cache spec course text served (h.saved text told) some; others = h.others }
+    by (Some path) h =
+        record {
+          saved = λ known here. let has = h.saved known here in (has.0, has.1, right_cache spec course has.0 served has.2 some);
+          others = h.others;
+        }

@@ -31,8 +31,9 @@ use Rattle.top_run.specs.Runs.{IsRead, Prints, Tells, Left}
 use Rattle.run_words.specs.Words.{most_served}
 use Rattle.door_workers.specs.Attending.{HaveEnds, IsEnough}
 use Rattle.top_run.specs.declared.serves.Begun.{Begun}
-use Rattle.top_run.specs.Saves.{Files}
-use Rattle.top_run.specs.Serves.{serve_shape, serve_keep, serve_text, line_count, BeginsBy}
+use Rattle.top_run.specs.Begins.{Beginning, BeginsAs, Files, FilesSeen}
+use Rattle.top_run.specs.Saves.{HasText}
+use Rattle.top_run.specs.Serves.{serve_shape, serve_keep, serve_text, line_count}
 use Rattle.top_run.specs.Warms.{HaveTakenOver, HitsHaveValues, rows_in}
 use Rattle.top_run.specs.Works.{IsLeft, IsSummarized, hub_terms, work_shape}
 
@@ -104,21 +105,34 @@ pub record HaveTakenOverRight (spec : WorkSpec) (rows : Option Tables) (earlier 
   pub fresh : IsSome rows → Fresh (rows_after opening first.log) left.log left.histories
   pub hits : IsSome rows → HitsHaveValues first.log first.histories left.log left.histories
 
+-- What is known of how a server's cache began.
+abbrev pub known_of : FilesSeen → FilesSeen → Tables → Option Tables → ℕ → Beginning
+known_of files_before files_after opening rows failed = record {
+  files_before = files_before;
+  files_after = files_after;
+  opening = opening;
+  rows = rows;
+  failed = failed;
+}
+
 -- A server ended Done: so many connections were served as were asked for, or the door said that no more come, as it did where no
 -- number was asked for. There is an end for each of a number of connections. The sink took all that a server writes, with the number
 -- that were served; how the cache began is in it where the words name a file for that. Of each shard there are the last steps of a
 -- legal history.
-pub record IsDoneServer (spec : ServeSpec) (taken_old taken_new : Option (List ℕ)) (ended : Bool)
-    (ends : List LineEnd) (histories : List (List Step)) (written : ℕ) : Type 0 where
+pub record IsDoneServer (spec : ServeSpec) (taken_old taken_new : Option (List ℕ)) (files_before files_after : FilesSeen)
+    (rows : Option Tables) (left : Left) (ended : Bool) (ends : List LineEnd) (written : ℕ) : Type 0 where
   pub lines : ℕ
   pub few : IfSome (most_served spec.conns) (λ most. lines ≤ most)
   pub have_ends : HaveEnds (most_served spec.conns) lines ends
   pub served : IsEnough (most_served spec.conns) lines ended
+  pub opening : Tables
+  pub opening_is : left.opening ≡ Some opening
+  pub failed : ℕ
   pub begun : Begun
-  pub begins : BeginsBy spec.warm begun
+  pub begins_as : BeginsAs spec.warm spec.shards (known_of files_before files_after opening rows failed) begun
   pub prints : Prints taken_old taken_new (serve_text begun (line_count lines)) written
-  pub as_many : length histories ≡ spec.shards
-  pub legal : (place : ℕ) (history : List Step) → slice_get histories place ≡ Some history → IsLeft (serve_shape spec) serve_keep place history
+  pub as_many : length left.histories ≡ spec.shards
+  pub legal : (place : ℕ) (history : List Step) → slice_get left.histories place ≡ Some history → IsLeft (serve_shape spec) serve_keep place history
 
 -- A dump is right for the shard of this number, of which a server leaves the last steps of a legal history beside this log: it has the
 -- rows that this history says are still right, and each value is its key's answer on the rows after the log.
@@ -141,7 +155,7 @@ pub record IsRightCache (spec : ServeSpec) (left : Left) (text : List ℕ) : Typ
 -- A server ended Done whose words name a file at this path for its cache. Where the file tells what it has, it has a cache that is right.
 -- Each other file has what it had.
 pub record HasSavedRight (path : List ℕ) (spec : ServeSpec) (left : Left) (old new : Files) : Type 0 where
-  pub saved : ForSome (new path) (IsRightCache spec left)
+  pub saved : HasText (IsRightCache spec left) (new path)
   pub others : SameElsewhere path old new
 
 -- A hit behind a release of the key, in a history that has the earliest step first: between them and around them are any steps.

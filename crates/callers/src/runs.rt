@@ -2,6 +2,7 @@
 ghost use Rattle.std.specs.Prelude.{◌≡◌, ◌≢◌, ◌<◌, ◌-◌, ◌^◌, [], All, map, Some, None, IfSome, IsSome};
 ghost use Rattle.sql_keeper.specs.Fresh.{Covered};
 ghost use Rattle.top_run.specs.Runs.{told_by, moment, seen, histories_at, left_at};
+ghost use Rattle.top_run.specs.Begins.{files_seen};
 ghost use Rattle.top_run.specs.Serves.{phase_left};
 ghost use Rattle.cache_file.specs.Files.{SameTexts};
 ghost use Rattle.callers.specs.Shards.{MeetsItsFloor};
@@ -290,8 +291,9 @@ pub fn run_telling_load<
 
 /// A server of these words over a door in memory that ends Done served as many connections as were asked for, or
 /// all that there were, as it did where the words say `forever`: the sink took `ready` and how many they were.
-/// Before `ready` it took how the cache began, where the words name a file for that. How each of a number of
-/// connections ended is told. Of each shard there are the last steps of a legal history.
+/// Before `ready` it took how the cache began, where the words name a file for that, and it is true: as many rows
+/// were taken over as the file has, or why there were none. How each of a number of connections ended is told.
+/// Of each shard there are the last steps of a legal history.
 pub fn run_server<
     S: Source,
     W: Sink,
@@ -315,7 +317,8 @@ pub fn run_server<
     ensures { (place : Place) (spec : ServeSpec) →
         AreWords (map (λ word. word.items) words.now) (Words.Serve place spec) →
         result.status ≡ Status.Done → IsDoneServer spec (W.taken sink.old) (W.taken sink.new)
-        door.new.ended result.ends.items (histories_at result) result.written }
+        (files_seen F.CacheFile file.old) (files_seen F.CacheFile file.new)
+        (K.rows result.keeper) (left_at result) door.new.ended result.ends.items result.written }
 {
     run(
         rt, alloc, words, source, sink, keeper, file, door, clock, gate,

@@ -5,3 +5,4 @@ pub mod WriteLemmas
 pub mod ShardLemmas
 pub mod DumpLemmas
 pub mod LoadLemmas
+pub mod TouchLemmas

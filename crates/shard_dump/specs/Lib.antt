@@ -5,3 +5,4 @@ pub mod Listed
 pub mod Faults
 pub mod Dumps
 pub mod Loads
+pub mod Touches

@@ -1,4 +1,7 @@
-ghost use Rattle.std.specs.Prelude.{◌≡◌, [], Ok, true};
+ghost use Rattle.std.specs.Prelude.{◌≡◌, ◌≤◌, [], Ok, Err, true, false, IsSome, All};
+ghost use Rattle.iq_outside.specs.Outside.{Rose};
+ghost use Rattle.rows_model.specs.Query.{answer};
+ghost use Rattle.sql_keeper.specs.declared.faults.KeepFault.TheVariants as keep;
 ghost use Rattle.shard_dump.specs.Loads.{AreAnswers, HasAsked};
 
 use crate::rows::DumpRow;
@@ -15,7 +18,11 @@ pub fn are_answers<K: Keeper, N: Start>(
     requires log { store.old.ledger.log ≡ [] }
     ensures answers { result ≡ Ok true →
         AreAnswers store.new.known_rows store.new.ledger.opening rows.now }
+    ensures differ { result ≡ Ok false → IsSome store.new.known_rows
+        → All (λ row. row.value ≡ answer row.key store.new.ledger.opening) rows.now → ⊥ }
     ensures asked { HasAsked store.old store.new }
+    ensures failed_rose { result ≡ Err keep.Failed → Rose store.old.faults store.new.faults }
+    ensures counted { result ≡ Err keep.Failed → 1 ≤ store.new.ledger.failed }
 {
     for row in rows {
         let answer = store.ask(&row.key)?;

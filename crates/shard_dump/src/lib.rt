@@ -2,12 +2,13 @@
 #![tactic(auto)]
 
 pub use asked::are_answers;
-pub use dumps::dump;
+pub use dumps::{dump, dump_beside};
 pub use faults::{DumpFault, LoadFault};
 pub use laws::texts_tell_dumps;
 pub use loads::load;
 pub use reading::read_dump;
 pub use rows::{Dump, DumpRow, DumpRows};
+pub use touches::LastTouches;
 
 pub mod asked;
 pub mod dumps;
@@ -20,3 +21,4 @@ mod parts;
 pub mod reading;
 pub mod rows;
 mod texts;
+pub mod touches;

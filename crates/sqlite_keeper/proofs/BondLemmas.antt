@@ -13,7 +13,7 @@ use Rattle.rows_model.specs.Changes.{is_member, is_linked, are_friends, has_bloc
 use Rattle.sqlite_tables.specs.declared.pairs.Pair.{Pair}
 use Rattle.sqlite_tables.specs.declared.pairs.PairState.{PairState}
 use Rattle.sqlite_tables.specs.declared.pairs.PairState.TheVariants.{Pending, Friend, Block}
-use Rattle.sqlite_tables.specs.Lists.{Lists, tables_of, link_in, block_in, name_in, pairs_from}
+use Rattle.sqlite_tables.specs.Lists.{Lists, tables_of, link_in, block_in, name_in, pairs_between, is_pair}
 use Rattle.sqlite_keeper.specs.Texts.{has_state}
 use Rattle.sqlite_keeper.specs.Bonds.{reaches, reaches_as, reaches_linked, paired_as}
 use Rattle.sqlite_keeper.proofs.AnswerLemmas.{links_in, blocks_in, IsSmaller}
@@ -49,14 +49,30 @@ paired_linked a b ps = list_any (λ p. (p.a == a) && (not (has_state Block p) &&
 abbrev pub paired : ℕ → ℕ → List Pair → Bool
 paired a b ps = list_any (λ p. (p.a == a) && (p.b == b)) ps
 
-pub reaches_is : (a b : ℕ) (lists : Lists) → reaches b (pairs_from a lists) ≡ paired a b lists.pairs
-reaches_is a b lists = among (λ p. p.a == a) (λ p. p.b == b) lists.pairs
+-- a test that was made already
+twice : (x y : Bool) → ((x && y) && y) ≡ (x && y)
+twice true true = refl
+twice true false = refl
+twice false y = refl
 
-pub reaches_as_is : (state : PairState) (a b : ℕ) (lists : Lists) → reaches_as state b (pairs_from a lists) ≡ paired_as state a b lists.pairs
-reaches_as_is state a b lists = among (λ p. p.a == a) (λ p. has_state state p && (p.b == b)) lists.pairs
+twice_behind : (x y s : Bool) → ((x && y) && (s && y)) ≡ (x && (s && y))
+twice_behind true true s = refl
+twice_behind true false s = sym (and-false s)
+twice_behind false y s = refl
 
-pub reaches_linked_is : (a b : ℕ) (lists : Lists) → reaches_linked b (pairs_from a lists) ≡ paired_linked a b lists.pairs
-reaches_linked_is a b lists = among (λ p. p.a == a) (λ p. not (has_state Block p) && (p.b == b)) lists.pairs
+pub reaches_is : (a b : ℕ) (lists : Lists) → reaches b (pairs_between a b lists) ≡ paired a b lists.pairs
+reaches_is a b lists =
+    among (is_pair a b) (λ p. p.b == b) lists.pairs ∙ (λ i. list_any (λ (p : Pair). twice (p.a == a) (p.b == b) i) lists.pairs)
+
+pub reaches_as_is : (state : PairState) (a b : ℕ) (lists : Lists) → reaches_as state b (pairs_between a b lists) ≡ paired_as state a b lists.pairs
+reaches_as_is state a b lists =
+    among (is_pair a b) (λ p. has_state state p && (p.b == b)) lists.pairs
+    ∙ (λ i. list_any (λ (p : Pair). twice_behind (p.a == a) (p.b == b) (has_state state p) i) lists.pairs)
+
+pub reaches_linked_is : (a b : ℕ) (lists : Lists) → reaches_linked b (pairs_between a b lists) ≡ paired_linked a b lists.pairs
+reaches_linked_is a b lists =
+    among (is_pair a b) (λ p. not (has_state Block p) && (p.b == b)) lists.pairs
+    ∙ (λ i. list_any (λ (p : Pair). twice_behind (p.a == a) (p.b == b) (not (has_state Block p)) i) lists.pairs)
 
 -- an invitation is a pending pair
 invited_go : (a b x y : ℕ) (s : PairState) (ps : List Pair)
@@ -152,7 +168,7 @@ invite_bool false true false c = refl
 invite_bool false false true c = refl
 invite_bool false false false c = refl
 
-pub may_invite : (a b : ℕ) (lists : Lists) → (not (reaches b (pairs_from a lists)) && not (reaches a (pairs_from b lists)))
+pub may_invite : (a b : ℕ) (lists : Lists) → (not (reaches b (pairs_between a b lists)) && not (reaches a (pairs_between b a lists)))
     ≡ (not (is_linked a b (tables_of lists)) && not (has_blocked a b (tables_of lists)) && not (has_blocked b a (tables_of lists)))
 may_invite a b lists =
     rw (reaches_is a b lists, reaches_is b a lists, paired_is a b lists.pairs, paired_is b a lists.pairs, joined_is a b lists.pairs, barred_is a b lists.pairs, barred_is b a lists.pairs)
@@ -166,7 +182,7 @@ block_bool false true false = refl
 block_bool false false true = refl
 block_bool false false false = refl
 
-pub may_block : (a b : ℕ) (lists : Lists) → (not (reaches b (pairs_from a lists)) && not (reaches_linked a (pairs_from b lists)))
+pub may_block : (a b : ℕ) (lists : Lists) → (not (reaches b (pairs_between a b lists)) && not (reaches_linked a (pairs_between b a lists)))
     ≡ (not (is_linked a b (tables_of lists)) && not (has_blocked a b (tables_of lists)))
 may_block a b lists =
     rw (reaches_is a b lists, reaches_linked_is b a lists, paired_is a b lists.pairs, joined_is a b lists.pairs, barred_is a b lists.pairs)

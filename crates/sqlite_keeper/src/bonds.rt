@@ -2,7 +2,7 @@
 ghost use Rattle.std.specs.Prelude.{◌≡◌, ◌==◌, ◌&&◌, not, nat_lt, IfOk, OnOk};
 ghost use Rattle.rows_model.specs.Rows.{Fit};
 ghost use Rattle.rows_model.specs.Changes.{applies, is_member, is_linked, is_invited, are_friends, has_blocked};
-ghost use Rattle.sqlite_tables.specs.Lists.{tables_of, pairs_from};
+ghost use Rattle.sqlite_tables.specs.Lists.{tables_of, pairs_between};
 ghost use Rattle.sqlite_tables.specs.Calls.{OnLists, Leaves};
 ghost use Rattle.sqlite_keeper.specs.Bonds.{reaches, reaches_as, reaches_linked, paired_as, are_two, IsTallied};
 ghost use Rattle.sqlite.specs.Held.{state};
@@ -11,7 +11,7 @@ use crate::texts::has_state;
 use rows_model::Change;
 use sql_keeper::KeepFault;
 use sqlite::{Alter, Transaction};
-use sqlite_tables::{Pair, PairState, links_from, name_of};
+use sqlite_tables::{Pair, PairState, links_between, name_of};
 use std::alloc::Global;
 
 const MOST_LINKS: usize = 1_000_000;
@@ -25,7 +25,7 @@ pub(crate) struct Tally {
     pub(crate) blocks: usize,
 }
 
-// The pairs that name the one of two members first, and those that name the other first.
+// The pair of two members that names the one first, or none, and the one that names the other first.
 #[derive(Drop)]
 struct Sides {
     there: Vec<Pair>,
@@ -201,8 +201,8 @@ fn is_paired<S: Alter>(
         OnOk result ((state S.Store tx.new.conn.now).now ≡ (state S.Store tx.old.conn.now).now)) }
     ensures leaves { Leaves S.Store tx.old.conn.now tx.new.conn.now }
 {
-    let from = links_from(alloc, tx, a)?;
-    Ok(reaches_as(from.as_slice(), b, wanted))
+    let between = links_between(alloc, tx, a, b)?;
+    Ok(reaches_as(between.as_slice(), b, wanted))
 }
 
 // The pairs of the two.
@@ -214,15 +214,15 @@ fn pairs_between<S: Alter>(
 ) -> Result<Sides, KeepFault>
     ensures same_reference { tx.new.conn.ghost_name ≡ tx.old.conn.ghost_name }
     ensures there { OnLists S.Store tx.old.conn.now tx.new.conn.now (λ lists.
-        IfOk result (λ sides. sides.there.items ≡ pairs_from a lists)) }
+        IfOk result (λ sides. sides.there.items ≡ pairs_between a b lists)) }
     ensures back { OnLists S.Store tx.old.conn.now tx.new.conn.now (λ lists.
-        IfOk result (λ sides. sides.back.items ≡ pairs_from b lists)) }
+        IfOk result (λ sides. sides.back.items ≡ pairs_between b a lists)) }
     ensures same { OnLists S.Store tx.old.conn.now tx.new.conn.now (λ _.
         OnOk result ((state S.Store tx.new.conn.now).now ≡ (state S.Store tx.old.conn.now).now)) }
     ensures leaves { Leaves S.Store tx.old.conn.now tx.new.conn.now }
 {
-    let there = links_from(alloc, tx, a)?;
-    let back = links_from(alloc, tx, b)?;
+    let there = links_between(alloc, tx, a, b)?;
+    let back = links_between(alloc, tx, b, a)?;
     Ok(Sides { there, back })
 }
 

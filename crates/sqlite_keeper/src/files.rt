@@ -15,6 +15,50 @@ use std::hash::{BuildHasher, RandomState};
 use std::rt::HostRuntime;
 use std::{io, str};
 
+// How long a page of a database in memory is. A commit takes the digest of each page that it writes, and
+// copies it some times. So it costs less by pages of 1,024 bytes than by those of 4,096 that a new file
+// gets.
+const SHORT_PAGE: usize = 1024;
+
+// How the one page of an empty database with short pages begins: with the header of the file and that of
+// a page with no rows. All behind it is zeros.
+const SHORT_HEAD: [u8; 108] = [
+    83, 81, 76, 105, 116, 101, 32, 102, 111, 114, 109, 97, 116, 32, 51, 0, 4, 0, 2, 2, 0, 64, 32,
+    32, 0, 0, 0, 0, 0, 0, 0, 1, 0, 0, 0, 0, 0, 0, 0, 0, 0, 0, 0, 1, 0, 0, 0, 4, 0, 0, 0, 0, 0, 0,
+    0, 0, 0, 0, 0, 1, 0, 0, 0, 0, 0, 0, 0, 0, 0, 0, 0, 0, 0, 0, 0, 0, 0, 0, 0, 0, 0, 0, 0, 0, 0, 0,
+    0, 0, 0, 0, 0, 0, 0, 0, 0, 0, 0, 46, 118, 136, 13, 0, 0, 0, 0, 4, 0, 0,
+];
+
+// A file in memory of an empty database with short pages.
+pub(crate) fn short_paged(alloc: Global) -> Result<StoreDisk, KeepFault>
+    ensures { IfOk result (λ disk. IsTrue (⟦<StoreDisk as Disk>⟧.is_usable disk)) }
+{
+    let mut disk = StoreDisk::new(alloc);
+    match put_short_page(&mut disk) {
+        Ok(()) => Ok(disk),
+        Err(error) => Err(read_fault(error)),
+    }
+}
+
+// Writes the page of an empty database with short pages.
+fn put_short_page(disk: &mut StoreDisk) -> io::Result<()>
+    requires { IsTrue (⟦<StoreDisk as Disk>⟧.is_usable disk.old) }
+    ensures { IsTrue (⟦<StoreDisk as Disk>⟧.is_usable disk.new) }
+{
+    disk.write_at(0, &SHORT_HEAD)?;
+    disk.set_len(SHORT_PAGE)
+}
+
+// The same options, where as many bytes are kept in as many more pages.
+pub(crate) fn in_short_pages(options: Options) -> Options {
+    Options {
+        cache_pages: 8_000,
+        spill_pages: 8_000,
+        checkpoint_frames: 4_000,
+        seed: options.seed,
+    }
+}
+
 // The database of the file at a path, which is made where it is missing, read into memory. From then on
 // each read is answered from there: it gives what the file held when it was read, and what was written
 // since.

@@ -10,6 +10,7 @@ ghost use Rattle.sqlite_keeper.specs.Bases.{NeverLies};
 ghost use Rattle.sqlite_keeper.specs.Openings.{members_alone, HoldsRows, begun, BeginsOn};
 
 use crate::base::{Base, tally_of};
+use crate::files::{in_short_pages, short_paged};
 use crate::loading::rows_of;
 use crate::schemas::{has_tables, is_blank};
 use memory_disk::StoreDisk;
@@ -76,9 +77,9 @@ pub(crate) fn found_base<S: Alter + Drop>(
 fn in_memory(alloc: Global) -> Result<Connection<FileStore<StoreDisk>>, KeepFault> {
     let files = Files {
         log: StoreDisk::new(alloc),
-        db: StoreDisk::new(alloc),
+        db: short_paged(alloc)?,
     };
-    match Connection::open_files(alloc, files, Options::new(1)) {
+    match Connection::open_files(alloc, files, in_short_pages(Options::new(1))) {
         Ok(conn) => Ok(conn),
         Err((error, _)) => Err(fault_of(error)),
     }

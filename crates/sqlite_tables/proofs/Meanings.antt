@@ -27,6 +27,9 @@ from_text = codes "SELECT a, b, st FROM link WHERE a = ?1 ORDER BY a, b"
 abbrev pub to_text : List ℕ
 to_text = codes "SELECT a, b, st FROM link WHERE b = ?1 ORDER BY a, b"
 
+abbrev pub between_text : List ℕ
+between_text = codes "SELECT a, b, st FROM link WHERE a = ?1 AND b = ?2 ORDER BY a, b"
+
 abbrev pub insert_text : List ℕ
 insert_text = codes "INSERT INTO link(a, b, st) VALUES(?1, ?2, ?3)"
 
@@ -64,11 +67,11 @@ add_text = codes "CREATE INDEX IF NOT EXISTS link_by_b ON link(b, a)"
 abbrev pub equals : ℕ → ℕ → Term
 equals at parameter = op2 (Compare Eq Binary) (col 1 at) (col 0 parameter)
 
--- the links whose column is the parameter, by their two ids
-abbrev pub links_where : ℕ → Query
-links_where at = record {
+-- the links that pass some tests, by their two ids
+abbrev pub links_with : List Term → Query
+links_with tests = record {
   from = inner 1 end;
-  filter = equals at 0 ∷ [];
+  filter = tests;
   group = None;
   project = col 1 1 ∷ col 1 2 ∷ col 1 3 ∷ [];
   distinct = false;
@@ -77,6 +80,14 @@ links_where at = record {
   limit = lit (Int (negsuc 0));
   offset = lit (Int (pos 0));
 }
+
+-- the links whose column is the parameter, by their two ids
+abbrev pub links_where : ℕ → Query
+links_where at = links_with (equals at 0 ∷ [])
+
+-- the link whose two ids are the parameters
+abbrev pub link_query : Query
+link_query = links_with (equals 1 0 ∷ equals 2 1 ∷ [])
 
 -- what is shown of the rows of a tree that pass some tests
 abbrev pub rows_where : ℕ → List Term → List Term → Query
@@ -113,6 +124,10 @@ pub to_is : command_of (understood store_schema to_text) ≡ Select (record { le
 unfolding understood everything
 to_is = refl
 
+pub between_is : command_of (understood store_schema between_text) ≡ Select (record { lets = []; body = link_query }) (codes "a" ∷ codes "b" ∷ codes "st" ∷ [])
+unfolding understood everything
+between_is = refl
+
 pub insert_is : command_of (understood store_schema insert_text) ≡ Insert 1 (Values (lit Null ∷ col 0 0 ∷ col 0 1 ∷ col 0 2 ∷ []) 4)
 unfolding understood everything
 insert_is = refl
@@ -137,6 +152,10 @@ from_plain = ((refl, refl), refl)
 pub to_plain : IsPlain (understood store_schema to_text) × (reads_listing store_schema to_text ≡ false)
 unfolding understood everything
 to_plain = ((refl, refl), refl)
+
+pub between_plain : IsPlain (understood store_schema between_text) × (reads_listing store_schema between_text ≡ false)
+unfolding understood everything
+between_plain = ((refl, refl), refl)
 
 pub insert_plain : IsPlain (understood store_schema insert_text)
 unfolding understood everything

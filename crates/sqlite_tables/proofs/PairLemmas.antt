@@ -13,6 +13,7 @@ use Rattle.std.proofs.lemmas.List.Sorted.{sorted_far, IsPermutation-map, IsPermu
 use Rattle.sqlite.specs.declared.types.Value.{Value}
 use Rattle.sqlite.specs.declared.types.Value.TheVariants.{Int}
 use Rattle.sqlite.specs.Collation.TheVariants.{Binary}
+use Rattle.sqlite.specs.Term.{Term}
 use Rattle.sqlite_value.specs.Order.{Row, column, value_cmp}
 use Rattle.sqlite_value.proofs.OrderLemmas.{value_cmp-Int, value_cmp_total}
 use Rattle.sqlite_trees.specs.Tree.{Trees}
@@ -23,9 +24,9 @@ use Rattle.sqlite_sql.specs.Ops.{binary, is_true, from_truth}
 use Rattle.sqlite_sql.specs.Query.{Query, IsAnswerAs, Output, output, output_cmp, page}
 use Rattle.sqlite_sql.proofs.QueryLemmas.{output_cmp_total}
 use Rattle.sqlite_tables.specs.declared.pairs.Pair.{Pair}
-use Rattle.sqlite_tables.specs.Lists.{pair_values, shown_pair, IsPairBefore}
+use Rattle.sqlite_tables.specs.Lists.{pair_values, shown_pair, IsPairBefore, is_pair}
 use Rattle.sqlite_tables.proofs.ListLemmas.{same_order, ascending_from, ascending_map}
-use Rattle.sqlite_tables.proofs.Meanings.{links_where}
+use Rattle.sqlite_tables.proofs.Meanings.{links_with, links_where, link_query, equals}
 
 -- what is shown of the rows that pass a test
 pub chosen : {A B C : Type 0} (p : A → Bool) (f : A → B) (g : B → C) (xs : List A) → map g (flat_map (λ x. cond (p x) (f x ∷ []) []) xs) ≡ map (λ x. g (f x)) (filter p xs)
@@ -60,6 +61,45 @@ less_is m n h = value_cmp-Int (pos m) (pos n) ∙ int_less m n h
 abbrev pub as_output : Row → Output
 as_output values = (column values 0 ∷ column values 1 ∷ [], column values 0 ∷ column values 1 ∷ column values 2 ∷ [])
 
+-- the links that pass some tests, where the tests say the same of the values of a pair
+module _ (tests : List Term) (params : Row) (passes : Row → Bool) where
+  abbrev sorted_query : Query
+  sorted_query = links_with tests
+
+  abbrev below : Output → Output → Bool
+  below x y = is_lt (output_cmp sorted_query x y)
+
+  pair_rises : (pair later : Pair) → IsPairBefore pair later → below (as_output (pair_values pair)) (as_output (pair_values later)) ≡ true
+  pair_rises pair later h = elim (cases_lt pair.a later.a) [
+    | inl lower ↦ rw (less_is pair.a later.a lower) refl
+    | inr tied ↦
+        let same : pair.a ≡ later.a = omega (arith, h.0) in
+        rw (same, tied_itself value_cmp_total (Int (pos later.a)), less_is pair.b later.b (h.1 same)) refl
+  ]
+
+  module _ (pairs : List Pair) (rise : AllPairs IsPairBefore pairs) (wants : Pair → Bool) (passes_is : (pair : Pair) → passes (pair_values pair) ≡ wants pair) where
+    abbrev wanted : List Pair
+    wanted = filter wants pairs
+
+    all_are : map as_output (filter passes (map pair_values pairs)) ≡ map (λ pair. as_output (pair_values pair)) wanted
+    all_are =
+        ap (map as_output) (filter-map passes pair_values pairs) ∙ map-map as_output pair_values _
+        ∙ (λ i. map (λ (pair : Pair). as_output (pair_values pair)) (filter (λ pair. passes_is pair i) pairs))
+
+    sorted_answer : (lost : Value) (db : Trees) (rows : List Row) → IsPermutation (map pair_values pairs) (map shown_pair (db 1))
+        → (a : IsAnswerAs lost sorted_query db params rows) → a.kept ≡ map as_output (filter passes (map shown_pair (db 1))) → rows ≡ map pair_values wanted
+    sorted_answer lost db rows same a kept =
+        let mixed : IsPermutation (map (λ pair. as_output (pair_values pair)) wanted) a.kept =
+        subst (λ l. IsPermutation l a.kept) all_are (subst (IsPermutation _) (sym kept) (IsPermutation-map as_output _ _ (IsPermutation-filter passes _ _ same))) in
+        let up = ascending_from (λ (x z : Pair). below (as_output (pair_values x)) (as_output (pair_values z)) ≡ true) wanted
+        (λ i j d low high. pair_rises (get_or wanted i d) (get_or wanted j d) (AllPairs-filter IsPairBefore wants pairs rise i j d low high)) in
+        let level = ascending_from (λ (y w : Output). below w y ≡ false) a.ordered
+        (λ i j d low high. sorted_far below (ranks_by (output_cmp_total sorted_query) (λ (o : Output). o)) a.ordered a.sorted i j d (omega (arith, low)) high) in
+        let ordered = same_order below (λ x. ap is_lt (tied_itself (output_cmp_total sorted_query) x)) (map (λ pair. as_output (pair_values pair)) wanted) a.ordered
+        (ascending_map (λ x z. below x z ≡ true) (λ (pair : Pair). as_output (pair_values pair)) wanted up) level (IsPermutation-trans _ _ _ mixed a.same) in
+        a.shown ∙ ap (λ os. page sorted_query params (map (λ (o : Output). o.1) os)) ordered ∙ map-map (λ (o : Output). o.1) (λ (pair : Pair). as_output (pair_values pair)) wanted
+
+-- the links with one end
 module _ (at : ℕ) (id : ℕ) where
   abbrev q : Query
   q = links_where (suc at)
@@ -69,17 +109,6 @@ module _ (at : ℕ) (id : ℕ) where
 
   abbrev passes : Row → Bool
   passes values = is_true (binary (Compare Eq Binary) (column values at) (Int (pos id))) && true
-
-  abbrev below : Output → Output → Bool
-  below x y = is_lt (output_cmp q x y)
-
-  pair_rises : (pair later : Pair) → IsPairBefore pair later → below (as_output (pair_values pair)) (as_output (pair_values later)) ≡ true
-  pair_rises pair later h = elim (cases_lt pair.a later.a) [
-    | inl lower ↦ rw (less_is pair.a later.a lower) refl
-    | inr tied ↦
-        let same : pair.a ≡ later.a = omega (arith, h.0) in
-        rw (same, tied_itself value_cmp_total (Int (pos later.a)), less_is pair.b later.b (h.1 same)) refl
-  ]
 
   module _ (column_is : (r : Row) → column r (suc at) ≡ column (shown_pair r) at) where
     kept_is : (rows : List Row) → map (output q) (flat_map (λ r. cond (is_true (binary (Compare Eq Binary) (column r (suc at)) (Int (pos id))) && true) ((params ∷ r ∷ []) ∷ []) []) rows)
@@ -91,27 +120,36 @@ module _ (at : ℕ) (id : ℕ) where
         ∙ ap (map as_output) (sym (filter-map passes shown_pair rows))
 
     module _ (side : Pair → ℕ) (side_is : (pair : Pair) → column (pair_values pair) at ≡ Int (pos (side pair))) (pairs : List Pair) (rise : AllPairs IsPairBefore pairs) where
-      abbrev wanted : List Pair
-      wanted = filter (λ pair. side pair == id) pairs
-
       passes_is : (pair : Pair) → passes (pair_values pair) ≡ (side pair == id)
       passes_is pair = and_true _ ∙ ap (λ v. is_true (binary (Compare Eq Binary) v (Int (pos id)))) (side_is pair) ∙ same_number (side pair) id
 
-      all_are : map as_output (filter passes (map pair_values pairs)) ≡ map (λ pair. as_output (pair_values pair)) wanted
-      all_are =
-          ap (map as_output) (filter-map passes pair_values pairs) ∙ map-map as_output pair_values _
-          ∙ (λ i. map (λ (pair : Pair). as_output (pair_values pair)) (filter (λ pair. passes_is pair i) pairs))
-
       pub answered : (lost : Value) (db : Trees) (rows : List Row) → IsPermutation (map pair_values pairs) (map shown_pair (db 1))
-          → IsAnswerAs lost q db params rows → rows ≡ map pair_values wanted
+          → IsAnswerAs lost q db params rows → rows ≡ map pair_values (filter (λ pair. side pair == id) pairs)
       answered lost db rows same a =
-          let kept : a.kept ≡ map as_output (filter passes (map shown_pair (db 1))) = a.distinct ∙ ap (map (output q)) a.grouped ∙ kept_is (db 1) in
-          let mixed : IsPermutation (map (λ pair. as_output (pair_values pair)) wanted) a.kept =
-          subst (λ l. IsPermutation l a.kept) all_are (subst (IsPermutation _) (sym kept) (IsPermutation-map as_output _ _ (IsPermutation-filter passes _ _ same))) in
-          let up = ascending_from (λ (x z : Pair). below (as_output (pair_values x)) (as_output (pair_values z)) ≡ true) wanted
-          (λ i j d low high. pair_rises (get_or wanted i d) (get_or wanted j d) (AllPairs-filter IsPairBefore (λ (pair : Pair). side pair == id) pairs rise i j d low high)) in
-          let level = ascending_from (λ (y w : Output). below w y ≡ false) a.ordered
-          (λ i j d low high. sorted_far below (ranks_by (output_cmp_total q) (λ (o : Output). o)) a.ordered a.sorted i j d (omega (arith, low)) high) in
-          let ordered = same_order below (λ x. ap is_lt (tied_itself (output_cmp_total q) x)) (map (λ pair. as_output (pair_values pair)) wanted) a.ordered
-          (ascending_map (λ x z. below x z ≡ true) (λ (pair : Pair). as_output (pair_values pair)) wanted up) level (IsPermutation-trans _ _ _ mixed a.same) in
-          a.shown ∙ ap (λ os. page q params (map (λ (o : Output). o.1) os)) ordered ∙ map-map (λ (o : Output). o.1) (λ (pair : Pair). as_output (pair_values pair)) wanted
+          sorted_answer (equals (suc at) 0 ∷ []) params passes pairs rise (λ pair. side pair == id) passes_is lost db rows same a
+          (a.distinct ∙ ap (map (output q)) a.grouped ∙ kept_is (db 1))
+
+-- the link with two ids
+module _ (a b : ℕ) where
+  abbrev both : Row
+  both = Int (pos a) ∷ Int (pos b) ∷ []
+
+  abbrev is_wanted : Row → Bool
+  is_wanted values =
+      is_true (binary (Compare Eq Binary) (column values 0) (Int (pos a))) && (is_true (binary (Compare Eq Binary) (column values 1) (Int (pos b))) && true)
+
+  both_kept : (rows : List Row) → map (output link_query) (flat_map (λ r. cond (is_wanted (shown_pair r)) ((both ∷ r ∷ []) ∷ []) []) rows)
+      ≡ map as_output (filter is_wanted (map shown_pair rows))
+  both_kept rows =
+      chosen (λ r. is_wanted (shown_pair r)) (λ r. both ∷ r ∷ []) (output link_query) rows
+      ∙ sym (map-map as_output shown_pair _)
+      ∙ ap (map as_output) (sym (filter-map is_wanted shown_pair rows))
+
+  wanted_is : (pair : Pair) → is_wanted (pair_values pair) ≡ is_pair a b pair
+  wanted_is pair = (λ i. same_number pair.a a i && (and_true _ ∙ same_number pair.b b) i)
+
+  pub answered_both : (pairs : List Pair) → AllPairs IsPairBefore pairs → (lost : Value) (db : Trees) (rows : List Row)
+      → IsPermutation (map pair_values pairs) (map shown_pair (db 1)) → IsAnswerAs lost link_query db both rows → rows ≡ map pair_values (filter (is_pair a b) pairs)
+  answered_both pairs rise lost db rows same answer =
+      sorted_answer (equals 1 0 ∷ equals 2 1 ∷ []) both is_wanted pairs rise (is_pair a b) wanted_is lost db rows same answer
+      (answer.distinct ∙ ap (map (output link_query)) answer.grouped ∙ both_kept (db 1))

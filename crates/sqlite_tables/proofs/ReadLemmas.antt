@@ -7,9 +7,9 @@ use Rattle.sqlite.specs.Order.{Row, column}
 use Rattle.sqlite.specs.Term.{col}
 use Rattle.sqlite.specs.State.{State, Shown}
 use Rattle.sqlite.proofs.Callers.{reads_as}
-use Rattle.sqlite_tables.specs.Lists.{Lists, AreLists, pair_values, pairs_from, pairs_to, name_in, name_rows}
+use Rattle.sqlite_tables.specs.Lists.{Lists, AreLists, pair_values, pairs_from, pairs_to, pairs_between, name_in, name_rows}
 use Rattle.sqlite_tables.specs.Schema.{store_schema}
-use Rattle.sqlite_tables.proofs.Meanings.{name_text, from_text, to_text, name_is, from_is, to_is, name_plain, from_plain, to_plain}
+use Rattle.sqlite_tables.proofs.Meanings.{name_text, from_text, to_text, between_text, name_is, from_is, to_is, between_is, name_plain, from_plain, to_plain, between_plain}
 use Rattle.sqlite_tables.proofs.PairLemmas as pairs
 use Rattle.sqlite_tables.proofs.NameLemmas as names
 
@@ -33,3 +33,9 @@ module _ (old new : State) (id : ℕ) (lists : Lists) (are : AreLists old.now li
       rows_of : (found : Option Member) → map (λ (m : Member). Text m.name ∷ []) (option_to_list found) ≡ name_rows (option_map (λ (m : Member). m.name) found)
       rows_of None = refl
       rows_of (Some m) = refl
+
+pub between_shown : (old new : State) (a b : ℕ) (lists : Lists) → AreLists old.now lists → (rows : List Row)
+    → Shown between_text (Int (pos a) ∷ Int (pos b) ∷ []) old new rows → rows ≡ map pair_values (pairs_between a b lists)
+between_shown old new a b lists are rows h =
+    let read = reads_as between_text (Int (pos a) ∷ Int (pos b) ∷ []) old new store_schema are.tables _ between_is between_plain.0 between_plain.1 rows h in
+    pairs.answered_both a b lists.pairs are.pairs_ascend Null _ rows are.pairs (read.answer Null)

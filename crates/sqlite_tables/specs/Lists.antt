@@ -102,6 +102,10 @@ name_rows (Some name) = (Text name ∷ []) ∷ []
 abbrev pub pairs_from : ℕ → Lists → List Pair
 pairs_from id lists = filter (λ pair. pair.a == id) lists.pairs
 
+-- the pair with these two ids, in this order, or none
+abbrev pub pairs_between : ℕ → ℕ → Lists → List Pair
+pairs_between a b lists = filter (is_pair a b) lists.pairs
+
 -- the pairs whose second id is this one
 abbrev pub pairs_to : ℕ → Lists → List Pair
 pairs_to id lists = filter (λ pair. pair.b == id) lists.pairs

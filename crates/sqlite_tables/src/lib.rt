@@ -8,7 +8,7 @@ pub use laws::{changes_are_made, lists_are_one};
 pub use loading::{Found, found_lists};
 pub use opening::{add_index, make_tables, put_member};
 pub use pairs::{Pair, PairState};
-pub use reads::{links_from, links_to, name_of};
+pub use reads::{links_between, links_from, links_to, name_of};
 pub use writes::{put_link, set_name, take_link};
 
 pub mod ends;

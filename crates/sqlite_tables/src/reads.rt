@@ -3,7 +3,7 @@ ghost use Rattle.sqlite_trees.specs.View.{doubt};
 ghost use Rattle.sqlite.specs.declared.types.Value.TheVariants.{Int, Text};
 ghost use Rattle.sqlite.specs.State.{HasCleanDisk, Shown, FailsToQuery, IsTooLate};
 ghost use Rattle.sqlite.specs.Held.{state};
-ghost use Rattle.sqlite_tables.specs.Lists.{name_in, name_rows, pairs_from, pairs_to};
+ghost use Rattle.sqlite_tables.specs.Lists.{name_in, name_rows, pairs_from, pairs_to, pairs_between};
 ghost use Rattle.sqlite_tables.specs.Calls.{OnLists, Leaves};
 
 use crate::faults::fault_of;
@@ -29,6 +29,28 @@ fn ask<S: Alter>(tx: &mut Transaction<'_, S>, sql: &str, id: u32) -> Result<Vec<
         ≤ doubt (state S.Store tx.new.conn.now).is_clean }
 {
     tx.query_all(sql, params![id])
+}
+
+// The rows that a text shows of two numbers.
+fn ask_two<S: Alter>(
+    tx: &mut Transaction<'_, S>,
+    sql: &str,
+    a: u32,
+    b: u32,
+) -> Result<Vec<Row>, Error>
+    ensures same_reference { tx.new.conn.ghost_name ≡ tx.old.conn.ghost_name }
+    ensures shown { HasCleanDisk (state S.Store tx.new.conn.now) → IfOk result (λ rows.
+        Shown sql.now (Int (pos a) ∷ Int (pos b) ∷ []) (state S.Store tx.old.conn.now)
+        (state S.Store tx.new.conn.now) rows.items) }
+    ensures refused { HasCleanDisk (state S.Store tx.new.conn.now) → IfErr result (λ e.
+        FailsToQuery sql.now (Int (pos a) ∷ Int (pos b) ∷ []) (state S.Store tx.old.conn.now)
+        (state S.Store tx.new.conn.now) e
+        ⊎ IsTooLate sql.now (Int (pos a) ∷ Int (pos b) ∷ []) (state S.Store tx.old.conn.now)
+        (state S.Store tx.new.conn.now) e) }
+    ensures clean { doubt (state S.Store tx.old.conn.now).is_clean
+        ≤ doubt (state S.Store tx.new.conn.now).is_clean }
+{
+    tx.query_all(sql, params![a, b])
 }
 
 // The name that the rows show, if there is one.
@@ -105,6 +127,32 @@ pub fn links_to<S: Alter>(
         tx,
         "SELECT a, b, st FROM link WHERE b = ?1 ORDER BY a, b",
         id,
+    ) {
+        Ok(rows) => pairs_in(alloc, rows.as_slice()),
+        Err(error) => Err(fault_of(error)),
+    }
+}
+
+/// The link or the block of two ids, in this order, or none.
+pub fn links_between<S: Alter>(
+    alloc: Global,
+    tx: &mut Transaction<'_, S>,
+    a: u32,
+    b: u32,
+) -> Result<Vec<Pair>, KeepFault>
+    ensures same_reference { tx.new.conn.ghost_name ≡ tx.old.conn.ghost_name }
+    ensures found { OnLists S.Store tx.old.conn.now tx.new.conn.now
+        (λ lists. IfOk result (λ pairs. pairs.items ≡ pairs_between a b lists)) }
+    ensures same { OnLists S.Store tx.old.conn.now tx.new.conn.now
+        (λ _. OnOk result
+        ((state S.Store tx.new.conn.now).now ≡ (state S.Store tx.old.conn.now).now)) }
+    ensures leaves { Leaves S.Store tx.old.conn.now tx.new.conn.now }
+{
+    match ask_two(
+        tx,
+        "SELECT a, b, st FROM link WHERE a = ?1 AND b = ?2 ORDER BY a, b",
+        a,
+        b,
     ) {
         Ok(rows) => pairs_in(alloc, rows.as_slice()),
         Err(error) => Err(fault_of(error)),

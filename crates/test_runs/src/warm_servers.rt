@@ -33,14 +33,38 @@ const HIT: &[u8] = b"SESSION 2\r\nVALUE profile:2 0 6 0\r\nm2 0 0\r\nEND\r\n";
 const SAVED: &[u8] =
     b"iqcache 1 1 bc01f71f4f2770ec77bd2b070d5c82ea220515b666ea9a17db9f2f13928dcb86\n38\niqdump 1 0 1 1\nprofile:2 6\nm2 0 0\nend\n";
 
-/// Texts from which a server of one shard over three new members takes nothing over: that of no cache; the one
-/// above with a byte less, and with another byte; of a cache whose value is wrong, and of one with two shards.
-const REFUSED: [&[u8]; 5] = [
-    b"",
-    b"iqcache 1 1 bc01f71f4f2770ec77bd2b070d5c82ea220515b666ea9a17db9f2f13928dcb86\n38\niqdump 1 0 1 1\nprofile:2 6\nm2 0 0\nend",
-    b"iqcache 1 1 bc01f71f4f2770ec77bd2b070d5c82ea220515b666ea9a17db9f2f13928dcb86\n38\niqdump 1 0 1 1\nprofile:2 6\nm3 0 0\nend\n",
-    b"iqcache 1 1 d2ae76ecf9e00ad476d863a8a38271a56e14091fdba35f5fb685b109b9bb3377\n38\niqdump 1 0 1 1\nprofile:2 6\nm9 0 0\nend\n",
-    b"iqcache 1 2 aee15946f846c4cf36f11ff29dd325a5c1dd72fe2affcbf27126c745e34d5802\n38\niqdump 1 0 2 1\nprofile:2 6\nm2 0 0\nend\n19\niqdump 1 1 2 0\nend\n",
+/// A text from which a server of one shard over three new members takes nothing over, and what it prints.
+struct Refused {
+    text: &'static [u8],
+    printed: &'static [u8],
+}
+
+/// What is printed beside the text of no cache of one shard.
+const NO_CACHE: &[u8] = b"cold no cache\nready\nserved 1\n";
+
+/// The text of no cache; the one above with a byte less, and with another byte; of a cache with a value that is
+/// wrong, and of one with two shards.
+const REFUSED: [Refused; 5] = [
+    Refused {
+        text: b"",
+        printed: NO_CACHE,
+    },
+    Refused {
+        text: b"iqcache 1 1 bc01f71f4f2770ec77bd2b070d5c82ea220515b666ea9a17db9f2f13928dcb86\n38\niqdump 1 0 1 1\nprofile:2 6\nm2 0 0\nend",
+        printed: NO_CACHE,
+    },
+    Refused {
+        text: b"iqcache 1 1 bc01f71f4f2770ec77bd2b070d5c82ea220515b666ea9a17db9f2f13928dcb86\n38\niqdump 1 0 1 1\nprofile:2 6\nm3 0 0\nend\n",
+        printed: NO_CACHE,
+    },
+    Refused {
+        text: b"iqcache 1 1 d2ae76ecf9e00ad476d863a8a38271a56e14091fdba35f5fb685b109b9bb3377\n38\niqdump 1 0 1 1\nprofile:2 6\nm9 0 0\nend\n",
+        printed: b"cold other rows\nready\nserved 1\n",
+    },
+    Refused {
+        text: b"iqcache 1 2 aee15946f846c4cf36f11ff29dd325a5c1dd72fe2affcbf27126c745e34d5802\n38\niqdump 1 0 2 1\nprofile:2 6\nm2 0 0\nend\n19\niqdump 1 1 2 0\nend\n",
+        printed: NO_CACHE,
+    },
 ];
 
 /// A client: what it says, and what it must be told.
@@ -115,7 +139,7 @@ fn a_server_takes_over_what_the_one_before_it_saved(rt: HostRuntime) -> Result<(
         rt.alloc(),
         &mut file,
         first,
-        b"cold\nready\nserved 1\n",
+        b"cold no file\nready\nserved 1\n",
     )?;
     assert!(rt; end == Some(Status::Done));
     assert!(rt; file.text() == Some(SAVED));
@@ -130,21 +154,25 @@ fn a_server_takes_over_what_the_one_before_it_saved(rt: HostRuntime) -> Result<(
     Ok(())
 }
 
-/// Whether a server takes nothing over from a file with this text.
-fn is_cold(rt: &(impl Threads + Wait + Sync), alloc: Global, text: &[u8]) -> Result<bool, Fail> {
-    let mut file = file_with(alloc, text, Vec::new(alloc))?;
+/// Whether a server takes nothing over from a file with this text, and says why.
+fn is_cold(
+    rt: &(impl Threads + Wait + Sync),
+    alloc: Global,
+    refused: &Refused,
+) -> Result<bool, Fail> {
+    let mut file = file_with(alloc, refused.text, Vec::new(alloc))?;
     let client = Client {
         says: GETS,
         told: LEASED,
     };
-    let end = ended(rt, alloc, &mut file, client, b"cold\nready\nserved 1\n")?;
+    let end = ended(rt, alloc, &mut file, client, refused.printed)?;
     Ok(end == Some(Status::Done))
 }
 
 #[test]
 fn a_server_takes_nothing_over_from_a_text_that_is_not_right(rt: HostRuntime) -> Result<(), Fail> {
-    for text in REFUSED.iter() {
-        assert!(rt; is_cold(&rt, rt.alloc(), *text)?);
+    for refused in REFUSED.iter() {
+        assert!(rt; is_cold(&rt, rt.alloc(), refused)?);
     }
     Ok(())
 }
@@ -159,7 +187,7 @@ fn a_file_that_cannot_be_written_is_told_and_stays_as_it_was(rt: HostRuntime) ->
         says: STORES,
         told: STORED,
     };
-    let end = ended(&rt, alloc, &mut file, client, b"cold\nready\nserved 1\n")?;
+    let end = ended(&rt, alloc, &mut file, client, NO_CACHE)?;
     assert!(rt; end == Some(Status::FileFault));
     assert!(rt; file.text() == Some(b"old".as_slice()));
     Ok(())

@@ -1,6 +1,6 @@
 -- The ends of a command, by its words.
 use Rattle.std.proofs.Common.{ℕ, ◌≡◌, ◌<◌, ◌≤◌, ◌-◌, ◌^◌, inl, inr, List, [], ◌∷◌, length, get_or, arith, ap, refl, sym, ◌∙◌, subst}
-use Rattle.std.specs.Prelude.{false, Option, Some, None, Result, Ok, Err, IfOk, MatchResult, codes}
+use Rattle.std.specs.Prelude.{IsSome, false, Option, Some, None, Result, Ok, Err, IfOk, MatchResult, codes}
 use Rattle.std.proofs.lemmas.Fmt.{decimal_injective}
 use Rattle.iq_outside.specs.Outside.{Rose, Takes, TakesAtMost}
 use Rattle.iq_outside.proofs.OutsideLemmas.{Takes-none}
@@ -30,12 +30,12 @@ use Rattle.run_words.specs.Reading.{AreReadAs, IsRead}
 use Rattle.top_run.specs.Works.{WorkEnded}
 use Rattle.std.specs.Prelude.{Vec}
 use Rattle.std.specs.Global.{Global}
-use Rattle.std.specs.Option.{ForSome}
 use Rattle.rows_model.specs.Rows.{Tables}
 use Rattle.session_client.specs.declared.plans.Shape.{Shape}
-use Rattle.cache_file.specs.Files.{SameElsewhere, SameTexts}
+use Rattle.cache_file.specs.Files.{Told, SameElsewhere, SameTexts}
 use Rattle.cache_file.specs.Texts.{AreDumps}
-use Rattle.top_run.specs.Saves.{Files, IsDumpedOf, IsSavedText, SavesAt}
+use Rattle.top_run.specs.Begins.{Files}
+use Rattle.top_run.specs.Saves.{HasText, IsDumpedOf, IsSavedText, SavesAt}
 use Rattle.top_run.specs.Works.{hub_terms}
 use Rattle.top_run.proofs.SaveLemmas.{is_done, unsaved_at}
 use Rattle.top_run.proofs.ServeLemmas.{AreSame, same_server, same_shape}
@@ -640,25 +640,30 @@ same_saved (Some path) None found spec ended rows left old new same shape h = ab
 same_saved (Some path) (Some other) found spec status.Done rows left old new same shape h =
     let at : path.items ≡ other.items = cc in
     record {
-      saved = subst (λ (p : List ℕ). ForSome (new p) (IsSavedText spec rows left)) at (same_text (new path.items) h.saved);
+      saved = subst (λ (p : List ℕ). HasText (IsSavedText spec rows left) (new p)) at (same_text (new path.items) h.saved);
+      tells = subst (λ (p : List ℕ). IsSome (old p) → IsSome (new p)) at h.tells;
       others = subst (λ (p : List ℕ). SameElsewhere p old new) at h.others;
     }
   where
     shards : found.shards ≡ spec.shards
     shards = ap (λ (s : Shape). s.shards) shape
 
-    same_text : (told : Option (List ℕ)) → ForSome told (IsSavedText found rows left) → ForSome told (IsSavedText spec rows left)
-    same_text told are = λ text here.
-        let is = are text here in
-        record {
-          opening = is.opening;
-          opening_is = is.opening_is;
-          dumps = is.dumps;
-          are_dumps = subst (λ n. AreDumps n is.dumps) shards is.are_dumps;
-          text_is = is.text_is;
-          each = λ place steps dump at at_dump.
-              subst (λ (s : Shape). IsDumpedOf (hub_terms s serve_keep place) rows is.opening left.log steps dump) shape (is.each place steps dump at at_dump);
-        }
+    same_text : (there : Told) → HasText (IsSavedText found rows left) there → HasText (IsSavedText spec rows left) there
+    same_text there are = λ known here.
+        let has = are known here in
+        let is = has.2 in (
+          has.0,
+          has.1,
+          record {
+            opening = is.opening;
+            opening_is = is.opening_is;
+            dumps = is.dumps;
+            are_dumps = subst (λ n. AreDumps n is.dumps) shards is.are_dumps;
+            text_is = is.text_is;
+            each = λ place steps dump at at_dump.
+                subst (λ (s : Shape). IsDumpedOf (hub_terms s serve_keep place) rows is.opening left.log steps dump) shape (is.each place steps dump at at_dump);
+          },
+        )
 same_saved (Some path) (Some other) found spec status.Usage rows left old new same shape h = h
 same_saved (Some path) (Some other) found spec (status.Script line kind) rows left old new same shape h = h
 same_saved (Some path) (Some other) found spec status.ReadFault rows left old new same shape h = h

@@ -13,6 +13,7 @@ pub mod RunLemmas
 pub mod SummaryLemmas
 pub mod WorkLemmas
 pub mod SecondLemmas
+pub mod BeginLemmas
 pub mod WarmStartLemmas
 pub mod SaveLemmas
 pub mod ServeLemmas

@@ -3,7 +3,6 @@ use Rattle.std.proofs.Common.{ℕ, ◌≡◌, ◌≤◌, ◌<◌, ◌+◌, List,
 use Rattle.std.proofs.lemmas.Bool.{false≢true}
 use Rattle.std.specs.Prelude.{◌≢◌, ◌⊎◌, Bool, true, false, Option, Some, None, IsSome, slice_get, option_map, Vec}
 use Rattle.std.specs.Global.{Global}
-use Rattle.std.specs.Option.{ForSome}
 use Rattle.std.proofs.lemmas.List.{length-map, map-append, take-append-drop, take_more}
 use Rattle.std.proofs.lemmas.List.Elements.{All-append, All-cons, All-get_or, All-nil}
 use Rattle.std.proofs.lemmas.Option.{slice_get-map, slice_get_within, get_or_from_slice_get}
@@ -22,7 +21,7 @@ use Rattle.shard_lock.specs.Names.{AreAll, AreLegal, IsNamed}
 use Rattle.shard_dump.specs.declared.rows.Dump.{Dump}
 use Rattle.shard_dump.specs.Dumps.{dump_of}
 use Rattle.shard_dump.specs.Texts.{IsDumpText, dump_text}
-use Rattle.cache_file.specs.Files.{SameTexts}
+use Rattle.cache_file.specs.Files.{Told, SameTexts}
 use Rattle.cache_file.specs.Texts.{IsDumpOf, cache_text}
 use Rattle.session_client.specs.declared.plans.Shape.{Shape}
 use Rattle.run_words.specs.declared.words.ServeSpec.{ServeSpec}
@@ -31,7 +30,8 @@ use Rattle.top_run.specs.declared.runs.Status.TheVariants as status
 use Rattle.top_run.specs.Plays.{start_status}
 use Rattle.top_run.specs.Runs.{Left, kept_in}
 use Rattle.top_run.specs.Warms.{rows_in}
-use Rattle.top_run.specs.Saves.{EndsSaved, Files, IsCacheOf, IsDumpedOf, IsSavedText, SavesAt}
+use Rattle.top_run.specs.Begins.{Files}
+use Rattle.top_run.specs.Saves.{EndsSaved, HasText, IsCacheOf, IsDumpedOf, IsSavedText, SavesAt}
 use Rattle.conn_server.specs.declared.ends.LineEnd.{LineEnd}
 use Rattle.door_workers.specs.DoorSeen.{DoorSeen}
 use Rattle.top_run.specs.declared.serves.Begun.{Begun}
@@ -87,7 +87,11 @@ pub saves_since : (path : Option (Vec ℕ Global)) (ended : Status) (spec : Serv
     → SameTexts old mid → SavesAt path ended spec rows left mid new → SavesAt path ended spec rows left old new
 saves_since None ended spec rows left old mid new same h = λ other. h other ∙ same other
 saves_since (Some path) status.Done spec rows left old mid new same h =
-    record { saved = h.saved; others = λ other away. h.others other away ∙ same other }
+    record {
+      saved = h.saved;
+      tells = λ some. h.tells (subst (λ (found : Told). IsSome found) (sym (same path.items)) some);
+      others = λ other away. h.others other away ∙ same other;
+    }
 saves_since (Some path) status.Usage spec rows left old mid new same h = λ other. h other ∙ same other
 saves_since (Some path) (status.Script line kind) spec rows left old mid new same h = λ other. h other ∙ same other
 saves_since (Some path) status.ReadFault spec rows left old mid new same h = λ other. h other ∙ same other
@@ -273,14 +277,14 @@ module _ (spec : ServeSpec) (terms : ℕ → Terms) (store : StoreView) (shards 
       some_same a b is = cc
 
   -- so what is saved at the end is what the server leaves
-  told_text : (told : Option (List ℕ)) → ForSome told (IsCacheOf store.ledger.log shards)
-      → ForSome told (IsSavedText spec store.known_rows (left_of store (kept_in shards)))
-  told_text told is = λ text here. saved_text text (is text here)
+  told_text : (found : Told) → HasText (IsCacheOf store.ledger.log shards) found
+      → HasText (IsSavedText spec store.known_rows (left_of store (kept_in shards))) found
+  told_text found is = λ known here. let has = is known here in (has.0, has.1, saved_text has.0 has.2)
 
   pub saves_at : (path : Option (Vec ℕ Global)) (before after : Status) (old new : Files) → EndsSaved path before after store.ledger.log shards old new
       → SavesAt path after spec store.known_rows (left_of store (kept_in shards)) old new
   saves_at None before after old new ends = ends.1
-  saves_at (Some path) status.Done status.Done old new ends = record { saved = told_text (new path.items) ends.0; others = ends.1 }
+  saves_at (Some path) status.Done status.Done old new ends = record { saved = told_text (new path.items) ends.0; tells = ends.1; others = ends.2 }
   saves_at (Some path) status.Done status.Usage old new ends = absurd ends
   saves_at (Some path) status.Done (status.Script line kind) old new ends = absurd ends
   saves_at (Some path) status.Done status.ReadFault old new ends = absurd ends

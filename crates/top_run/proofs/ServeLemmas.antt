@@ -2,6 +2,7 @@
 use Rattle.std.proofs.Common.{ℕ, ◌≡◌, ◌≤◌, ◌++◌, ◌∷◌, List, [], decimal, append_assoc, arith, ap, sym, ◌∙◌, refl, subst, inl, inr}
 use Rattle.std.specs.Prelude.{◌≢◌, false, codes, unwrap_or, IfSome, Option, None, Some, Vec}
 use Rattle.std.specs.Global.{Global}
+use Rattle.std.specs.List.{join_with_byte}
 use Rattle.iq_outside.specs.declared.sinks.Sink.{Ghosts as Sinks}
 use Rattle.session_client.specs.declared.plans.Shape.{Shape}
 use Rattle.top_run.specs.declared.runs.Status.{Status}
@@ -13,13 +14,17 @@ use Rattle.top_run.specs.Runs.{Prints, is_read_fault}
 use Rattle.top_run.specs.Works.{IsKept}
 use Rattle.top_run.specs.declared.serves.Begun.{Begun}
 use Rattle.top_run.specs.declared.serves.Begun.TheVariants as cache
-use Rattle.top_run.specs.Serves.{serve_shape, serve_keep, begun_line, ready_line, ready_text, served_line, serve_text, BeginsBy, IsServedText, IsAttended, HasServed, Course, IsServed, ServeEnded}
+use Rattle.top_run.specs.declared.serves.ColdCause.{ColdCause}
+use Rattle.top_run.specs.declared.serves.ColdCause.TheVariants as why
+use Rattle.top_run.specs.Begins.{BeginsAs}
+use Rattle.top_run.specs.Serves.{serve_shape, serve_keep, begun_line, beginning_in, cold_words, ready_line, ready_text, served_line, serve_text, BeginsBy, IsServedText, IsAttended, HasServed, Course, IsServed, ServeEnded}
 use Rattle.door_workers.specs.Attending.{GivesBack, HaveEnds, IsEnough}
 use Rattle.run_words.specs.Words.{most_served, path_in}
 use Rattle.door_workers.specs.DoorSeen.{DoorSeen}
 use Rattle.door_workers.specs.Ends.{AreHandedBack, AreServed}
 use Rattle.door_workers.proofs.EndLemmas.{none-handed, none-served}
 use Rattle.iq_outside.specs.Outside.{LineRecord}
+use Rattle.top_run.proofs.BeginLemmas.{same_begins_as}
 use Rattle.top_run.proofs.PrintLemmas.{print_none}
 
 -- ---- what is written
@@ -33,9 +38,14 @@ pub new_is : begun_line cache.New ≡ []
 unfolding begun_line
 new_is = refl
 
-pub cold_is : begun_line cache.Cold ≡ codes "cold\n"
+pub cold_is : (cause : ColdCause) → begun_line (cache.Cold cause) ≡ (codes "cold " ++ join_with_byte 32 (cold_words cause)) ++ 10 ∷ []
 unfolding begun_line
-cold_is = refl
+cold_is why.NoFile = refl
+cold_is why.FileFault = refl
+cold_is why.NoCache = refl
+cold_is why.OtherRows = refl
+cold_is why.StoreFault = refl
+cold_is why.Memory = refl
 
 pub warm_is : (rows : ℕ) → begun_line (cache.Warm rows) ≡ (codes "warm " ++ decimal rows) ++ 10 ∷ []
 unfolding begun_line
@@ -167,6 +177,9 @@ same_served found spec ended course same h =
       opening = h.opening;
       begun = h.begun;
       begins = same_begins found.warm spec.warm h.begun same.warm h.begins;
+      begins_as = subst (λ (n : ℕ). BeginsAs spec.warm n (beginning_in course h.opening h.failed) h.begun) same.shards
+          (same_begins_as found.warm spec.warm found.shards (beginning_in course h.opening h.failed) h.begun same.warm h.begins_as);
+      fail_only_told = h.fail_only_told;
       failed = h.failed;
       kept = subst (λ (shape : Shape). IsKept shape serve_keep course.held course.before course.after course.left h.opening h.failed)
           (same_shape found spec same.members same.shards) h.kept;

@@ -4,6 +4,7 @@ use Rattle.std.specs.Prelude.{Bool, false, ◌⊎◌, Option, Some, None, IsSome
 use Rattle.std.specs.List.{remove}
 use Rattle.std.specs.Option.{ForSome}
 use Rattle.std.proofs.lemmas.Bool.{false≢true}
+use Rattle.std.proofs.lemmas.List.{append-nil, append_assoc}
 use Rattle.std.proofs.lemmas.List.Elements.{All-get_or, All-weaker}
 use Rattle.std.proofs.lemmas.Option.{slice_get-map, slice_get_within, get_or_from_slice_get}
 use Rattle.rows_model.specs.declared.keys.QKey.{QKey}
@@ -31,11 +32,14 @@ use Rattle.shard_dump.specs.Loads.{AreRight as AreRightOn}
 use Rattle.cache_file.specs.Texts.{AreDumps, IsDumpOf}
 use Rattle.run_words.specs.declared.words.ServeSpec.{ServeSpec}
 use Rattle.top_run.specs.declared.hubs.Parts.{Parts}
+use Rattle.top_run.specs.declared.serves.ColdCause.{ColdCause}
 use Rattle.top_run.specs.declared.serves.Ready.{Ready}
+use Rattle.top_run.specs.Begins.{AreFilledWith, StopsFilling}
 use Rattle.top_run.specs.Ready.{AreParts, MakeHub}
 use Rattle.top_run.specs.Serves.{serve_keep, serve_shape}
-use Rattle.top_run.specs.Warming.{AreToServe, AsksOn, CanLoad, IsAnew, IsEmptyFor, IsFilled, IsLoadedWith, IsServeReadyAnew, KeepsOn, NamesAnew, before_of}
+use Rattle.top_run.specs.Warming.{AreToServe, AsksOn, CanLoad, IsAnew, IsEmptyFor, IsLoadedWith, IsServeReadyAnew, KeepsOn, NamesAnew, before_of}
 use Rattle.top_run.specs.Works.{hub_terms}
+use Rattle.top_run.proofs.BeginLemmas.{count_grows, filled_more, filled_none, stops_all}
 use Rattle.top_run.proofs.WarmEnds.{all_alike}
 use Rattle.top_run.proofs.WarmLemmas.{unused_legal}
 use Rattle.top_run.proofs.WarmingLemmas.{loaded_is_new}
@@ -120,13 +124,6 @@ loaded_still known_rows later opening now rows old new same tells h = record {
   answers = λ some. subst (λ (t : Tables). All (λ (row : DumpRow). row.value ≡ answer row.key t) rows) (sym same) (h.answers (tells some));
 }
 
-pub filled_still : (before after : StoreView) (old new : ShardView) → AsksOn before after → IsFilled before.known_rows before.ledger.opening old new
-    → IsFilled after.known_rows after.ledger.opening old new
-filled_still before after old new asks h = record {
-  rows = h.rows;
-  loaded = loaded_still before.known_rows after.known_rows before.ledger.opening after.ledger.opening h.rows old new asks.opening_is asks.tells h.loaded;
-}
-
 -- ---- the shards of a server, of which some are filled
 
 -- a new shard with the terms of its place
@@ -139,12 +136,18 @@ pub record IsEmptyAt (spec : ServeSpec) (place : ℕ) (shard : ShardView) : Type
 pub record IsFilledAt (spec : ServeSpec) (known_rows : Option Tables) (opening : Tables) (place : ℕ) (shard : ShardView) : Type 0 where
   pub terms_are : shard.terms ≡ hub_terms (serve_shape spec) serve_keep place
   pub old : ShardView
-  pub filled : IsFilled known_rows opening old shard
+  pub rows : List DumpRow
+  pub loaded : IsLoadedWith known_rows opening rows old shard
 
--- the first shards are filled, and for each of the others there is the dump of its place
-pub record AreFilling (spec : ServeSpec) (known_rows : Option Tables) (opening : Tables) (empty filled : List ShardView) (dumps : List Dump) : Type 0 where
+-- the first shards are filled with the first dumps, which have so many rows, and for each of the others there is the dump of its place
+pub record AreFilling (spec : ServeSpec) (known_rows : Option Tables) (opening : Tables) (given : List Dump) (empty filled : List ShardView)
+    (dumps : List Dump) (count : ℕ) : Type 0 where
   pub many : length filled + length empty ≡ spec.shards
   pub same : length dumps ≡ length empty
+  pub front : List Dump
+  pub parts : given ≡ front ++ dumps
+  pub in_front : length front ≡ length filled
+  pub filled_with : AreFilledWith front known_rows opening filled count
   pub done : (place : ℕ) (shard : ShardView) → slice_get filled place ≡ Some shard → IsFilledAt spec known_rows opening place shard
   pub left : (place : ℕ) (shard : ShardView) → slice_get empty place ≡ Some shard → IsEmptyAt spec (length filled + place) shard
   pub texts : (place : ℕ) (dump : Dump) → slice_get dumps place ≡ Some dump → IsDumpOf spec.shards (length filled + place) dump
@@ -156,11 +159,15 @@ at_place P shards place shard all is =
 -- none is at first
 pub none_filled : (spec : ServeSpec) (known_rows : Option Tables) (opening : Tables) (empty filled : List ShardView) (dumps : List Dump)
     → filled ≡ [] → AreAll (hub_terms (serve_shape spec) serve_keep) empty → length empty ≡ spec.shards → All (λ shard. shard.history ≡ []) empty
-    → All (λ shard. shard.out ≡ []) empty → AreDumps spec.shards dumps → AreFilling spec known_rows opening empty filled dumps
+    → All (λ shard. shard.out ≡ []) empty → AreDumps spec.shards dumps → AreFilling spec known_rows opening dumps empty filled dumps 0
 none_filled spec known_rows opening empty filled dumps none all many new none_out are =
-    subst (λ (l : List ShardView). AreFilling spec known_rows opening empty l dumps) (sym none) (record {
+    subst (λ (l : List ShardView). AreFilling spec known_rows opening dumps empty l dumps 0) (sym none) (record {
       many = let m = many in omega (arith, m);
       same = are.all ∙ sym many;
+      front = [];
+      parts = refl;
+      in_front = refl;
+      filled_with = filled_none known_rows opening;
       done = λ place shard at. absurd cc;
       left = λ place shard at.
           subst (λ n. IsEmptyAt spec n shard) (omega arith) (record {
@@ -173,12 +180,12 @@ none_filled spec known_rows opening empty filled dumps none all many new none_ou
     })
 
 -- the next is a new shard, and its dump is there
-pub next_empty : (spec : ServeSpec) (known_rows : Option Tables) (opening : Tables) (empty filled : List ShardView) (dumps : List Dump) (shard : ShardView) (dump : Dump)
-    → 0 < length empty → shard ≡ get_or empty 0 shard → dump ≡ get_or dumps 0 dump → AreFilling spec known_rows opening empty filled dumps
-    → IsEmptyFor dump shard
-next_empty spec known_rows opening [] filled dumps shard dump some first front was = absurd (omega (arith, some))
-next_empty spec known_rows opening (one ∷ later) filled [] shard dump some first front was = let same = was.same in absurd (omega (arith, same))
-next_empty spec known_rows opening (one ∷ later) filled (text ∷ texts) shard dump some first front was =
+pub next_empty : (spec : ServeSpec) (known_rows : Option Tables) (opening : Tables) (given : List Dump) (empty filled : List ShardView) (dumps : List Dump) (count : ℕ)
+    (shard : ShardView) (dump : Dump) → 0 < length empty → shard ≡ get_or empty 0 shard → dump ≡ get_or dumps 0 dump
+    → AreFilling spec known_rows opening given empty filled dumps count → IsEmptyFor dump shard
+next_empty spec known_rows opening given [] filled dumps count shard dump some first front was = absurd (omega (arith, some))
+next_empty spec known_rows opening given (one ∷ later) filled [] count shard dump some first front was = let same = was.same in absurd (omega (arith, same))
+next_empty spec known_rows opening given (one ∷ later) filled (text ∷ texts) count shard dump some first front was =
     let left = was.left 0 one refl in
     let is = was.texts 0 text refl in
     subst (λ (s : ShardView). IsEmptyFor dump s) (sym first) (subst (λ (d : Dump). IsEmptyFor d one) (sym front) (record {
@@ -192,39 +199,73 @@ next_empty spec known_rows opening (one ∷ later) filled (text ∷ texts) shard
       right = record { right = is.right; rows = is.rows; written = refl };
     }))
 
+-- where it isn't filled, not all are
+pub one_stops : (spec : ServeSpec) (before after : StoreView) (given : List Dump) (empty filled : List ShardView) (dumps : List Dump) (count : ℕ) (dump : Dump)
+    (cause : ColdCause) → 0 < length empty → dump ≡ get_or dumps 0 dump → AreFilling spec before.known_rows before.ledger.opening given empty filled dumps count
+    → StopsFilling after (dump ∷ []) cause → StopsFilling after given cause
+one_stops spec before after given empty filled [] count dump cause some first was stops = let same = was.same in absurd (omega (arith, same, some))
+one_stops spec before after given empty filled (text ∷ texts) count dump cause some first was stops =
+    stops_all after given was.front text texts cause was.parts (subst (λ (d : Dump). StopsFilling after (d ∷ []) cause) first stops)
+
 -- once it is filled, there is one more
-pub one_filled : (spec : ServeSpec) (before after : StoreView) (empty rest filled : List ShardView) (dumps others : List Dump) (shard new : ShardView)
-    → 0 < length empty → shard ≡ get_or empty 0 shard → rest ≡ remove empty 0 → others ≡ remove dumps 0 → AsksOn before after
-    → IsFilled after.known_rows after.ledger.opening shard new → AreFilling spec before.known_rows before.ledger.opening empty filled dumps
-    → AreFilling spec after.known_rows after.ledger.opening rest (filled ++ new ∷ []) others
-one_filled spec before after [] rest filled dumps others shard new some first left front asks now was = absurd (omega (arith, some))
-one_filled spec before after (one ∷ later) rest filled [] others shard new some first left front asks now was =
+pub one_filled : (spec : ServeSpec) (before after : StoreView) (given : List Dump) (empty rest filled : List ShardView) (dumps others : List Dump) (count more sum : ℕ)
+    (shard new : ShardView) (dump : Dump) → 0 < length empty → shard ≡ get_or empty 0 shard → rest ≡ remove empty 0 → dump ≡ get_or dumps 0 dump
+    → others ≡ remove dumps 0 → AsksOn before after → IsLoadedWith after.known_rows after.ledger.opening dump.rows shard new → length dump.rows ≤ 4096
+    → spec.shards ≤ 64 → sum ≡ count + length dump.rows → (sum ≤ 1000000 → more ≡ sum)
+    → AreFilling spec before.known_rows before.ledger.opening given empty filled dumps count
+    → AreFilling spec after.known_rows after.ledger.opening given rest (filled ++ new ∷ []) others more
+one_filled spec before after given [] rest filled dumps others count more sum shard new dump some first left front behind asks now room few is grows was =
+    absurd (omega (arith, some))
+one_filled spec before after given (one ∷ later) rest filled [] others count more sum shard new dump some first left front behind asks now room few is grows was =
     let same = was.same in absurd (omega (arith, same))
-one_filled spec before after (one ∷ later) rest filled (text ∷ texts) others shard new some first left front asks now was =
+one_filled spec before after given (one ∷ later) rest filled (text ∷ texts) others count more sum shard new dump some first left front behind asks now room few is grows was =
     let many = was.many in
     let same = was.same in
-    let more = length-append filled (new ∷ []) in
-    subst (λ (l : List ShardView). AreFilling spec after.known_rows after.ledger.opening l (filled ++ new ∷ []) others) (sym left)
-    (subst (λ (l : List Dump). AreFilling spec after.known_rows after.ledger.opening later (filled ++ new ∷ []) l) (sym front) (record {
-      many = omega (arith, many, more);
+    let in_front = was.in_front in
+    let longer = length-append filled (new ∷ []) in
+    let longer_front = length-append was.front (text ∷ []) in
+    let number : more ≡ count + length dump.rows =
+    count_grows was.front dump filled before.known_rows before.ledger.opening count more sum was.filled_with (omega (arith, many, in_front, few)) room is grows in
+    subst (λ (l : List ShardView). AreFilling spec after.known_rows after.ledger.opening given l (filled ++ new ∷ []) others more) (sym left)
+    (subst (λ (l : List Dump). AreFilling spec after.known_rows after.ledger.opening given later (filled ++ new ∷ []) l more) (sym behind) (record {
+      many = omega (arith, many, longer);
       same = omega (arith, same);
+      front = was.front ++ text ∷ [];
+      parts = was.parts ∙ sym (append_assoc was.front (text ∷ []) texts);
+      in_front = omega (arith, in_front, longer, longer_front);
+      filled_with =
+          subst (λ (d : Dump). AreFilledWith (was.front ++ d ∷ []) after.known_rows after.ledger.opening (filled ++ new ∷ []) more) front
+          (filled_more was.front dump filled new before.known_rows after.known_rows before.ledger.opening after.ledger.opening count more in_front
+          asks.opening_is asks.tells number now.has room now.answers was.filled_with);
       done = λ place s at. by place s (stands-pushed filled new s place at);
-      left = λ place s at. subst (λ n. IsEmptyAt spec n s) (omega (arith, more)) (was.left (suc place) s at);
-      texts = λ place d at. subst (λ n. IsDumpOf spec.shards n d) (omega (arith, more)) (was.texts (suc place) d at);
+      left = λ place s at. subst (λ n. IsEmptyAt spec n s) (omega (arith, longer)) (was.left (suc place) s at);
+      texts = λ place d at. subst (λ n. IsDumpOf spec.shards n d) (omega (arith, longer)) (was.texts (suc place) d at);
     }))
   where
     by : (place : ℕ) (s : ShardView) → (slice_get filled place ≡ Some s) ⊎ ((place ≡ length filled) × (new ≡ s))
         → IsFilledAt spec after.known_rows after.ledger.opening place s
     by place s (inl there) =
         let h = was.done place s there in
-        record { terms_are = h.terms_are; old = h.old; filled = filled_still before after h.old s asks h.filled }
+        record {
+          terms_are = h.terms_are;
+          old = h.old;
+          rows = h.rows;
+          loaded = loaded_still before.known_rows after.known_rows before.ledger.opening after.ledger.opening h.rows h.old s asks.opening_is asks.tells h.loaded;
+        }
     by place s (inr here) =
         let terms : new.terms ≡ hub_terms (serve_shape spec) serve_keep (length filled) =
-        now.loaded.terms_are ∙ ap (λ (x : ShardView). x.terms) first ∙ (was.left 0 one refl).terms_are
+        now.terms_are ∙ ap (λ (x : ShardView). x.terms) first ∙ (was.left 0 one refl).terms_are
         ∙ ap (hub_terms (serve_shape spec) serve_keep) (omega arith) in
         subst (λ n. IsFilledAt spec after.known_rows after.ledger.opening n s) (sym here.0)
         (subst (λ (x : ShardView). IsFilledAt spec after.known_rows after.ledger.opening (length filled) x) here.1
-        (record { terms_are = terms; old = shard; filled = now }))
+        (record { terms_are = terms; old = shard; rows = dump.rows; loaded = now }))
+
+-- where none is left, all of them are filled
+pub filled_with_all : (spec : ServeSpec) (known_rows : Option Tables) (opening : Tables) (given : List Dump) (empty filled : List ShardView) (dumps : List Dump) (count : ℕ)
+    → length empty ≡ 0 → AreFilling spec known_rows opening given empty filled dumps count → AreFilledWith given known_rows opening filled count
+filled_with_all spec known_rows opening given empty filled [] count none are =
+    subst (λ (l : List Dump). AreFilledWith l known_rows opening filled count) (sym (are.parts ∙ append-nil are.front)) are.filled_with
+filled_with_all spec known_rows opening given empty filled (text ∷ texts) count none are = let same = are.same in absurd (omega (arith, same, none))
 
 -- ---- shards that can be served
 
@@ -241,9 +282,10 @@ at_get shards place default below =
     there.1 ∙ ap (λ (s : ShardView). Some s) (sym (get_or_from_slice_get shards place there.0 default there.1))
 
 -- where all are filled they can
-pub all_filled : (spec : ServeSpec) (known_rows : Option Tables) (opening : Tables) (empty filled : List ShardView) (dumps : List Dump) → length empty ≡ 0
-    → 1 ≤ spec.shards → AreFilling spec known_rows opening empty filled dumps → AreToServe (hub_terms (serve_shape spec) serve_keep) known_rows opening filled
-all_filled spec known_rows opening empty filled dumps none some are =
+pub all_filled : (spec : ServeSpec) (known_rows : Option Tables) (opening : Tables) (given : List Dump) (empty filled : List ShardView) (dumps : List Dump) (count : ℕ)
+    → length empty ≡ 0 → 1 ≤ spec.shards → AreFilling spec known_rows opening given empty filled dumps count
+    → AreToServe (hub_terms (serve_shape spec) serve_keep) known_rows opening filled
+all_filled spec known_rows opening given empty filled dumps count none some are =
     let many = are.many in
     let terms : ℕ → Terms = hub_terms (serve_shape spec) serve_keep in
     record {
@@ -257,13 +299,13 @@ all_filled spec known_rows opening empty filled dumps none some are =
             ∙ omega (arith, many, none);
         placed = λ place shard at. ap (λ (t : Terms). t.no) (are.done place shard at).terms_are;
       };
-      legal = λ place default below. (are.done place (get_or filled place default) (at_get filled place default below)).filled.loaded.legal;
+      legal = λ place default below. (are.done place (get_or filled place default) (at_get filled place default below)).loaded.legal;
       new = λ before named place default below.
           let new = get_or filled place default in
           let here = at_get filled place default below in
           let h = are.done place new here in
           let first : new.terms.first ≡ 1 = ap (λ (t : Terms). t.first) h.terms_are in
-          loaded_is_new known_rows opening h.filled.rows before h.old new h.filled.loaded (omega (arith, first))
+          loaded_is_new known_rows opening h.rows before h.old new h.loaded (omega (arith, first))
           (named_past before filled named place new here (ap (λ (t : Terms). t.no) h.terms_are));
     }
 

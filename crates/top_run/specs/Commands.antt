@@ -17,7 +17,8 @@ use Rattle.run_words.specs.Reading.{AreReadAs, IsRead}
 use Rattle.top_run.specs.Works.{WorkEnded}
 use Rattle.top_run.specs.Warms.{WarmEnded}
 use Rattle.cache_file.specs.Files.{SameTexts}
-use Rattle.top_run.specs.Saves.{Files, SavesAt}
+use Rattle.top_run.specs.Begins.{Files}
+use Rattle.top_run.specs.Saves.{SavesAt}
 use Rattle.rows_model.specs.Rows.{Tables}
 use Rattle.top_run.specs.declared.runs.Phase.{Phase}
 

@@ -3,6 +3,7 @@ pub mod Runs
 pub mod Plays
 pub mod Works
 pub mod Warms
+pub mod Begins
 pub mod Serves
 pub mod Saves
 pub mod Ready

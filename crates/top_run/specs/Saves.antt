@@ -13,11 +13,12 @@ use Rattle.sql_keeper.specs.Log.{rows_after}
 use Rattle.shard_dump.specs.declared.rows.Dump.{Dump}
 use Rattle.shard_dump.specs.Dumps.{dump_of}
 use Rattle.shard_dump.specs.Texts.{IsDumpText, dump_text}
-use Rattle.cache_file.specs.Files.{SameElsewhere, SameTexts}
+use Rattle.cache_file.specs.Files.{Told, SameElsewhere, SameTexts}
 use Rattle.cache_file.specs.Texts.{AreDumps, cache_text}
 use Rattle.run_words.specs.declared.words.ServeSpec.{ServeSpec}
 use Rattle.top_run.specs.declared.runs.Status.{Status}
 use Rattle.top_run.specs.declared.runs.Status.TheVariants as status
+use Rattle.top_run.specs.Begins.{Files}
 use Rattle.top_run.specs.Runs.{Left}
 use Rattle.top_run.specs.Serves.{serve_shape, serve_keep}
 use Rattle.top_run.specs.Warms.{rows_in}
@@ -46,13 +47,15 @@ pub record IsCacheOf (log : List Commit) (shards : List ShardView) (text : List 
   pub text_is : text ≡ cache_text (map (λ shard. dump_text (dump_of log shard)) shards)
   pub right : All (λ shard. IsDumpText (dump_text (dump_of log shard)) (dump_of log shard)) shards
 
--- What the files at paths have, where that is told.
-abbrev pub Files : Type 0
-Files = List ℕ → Option (List ℕ)
+-- Where it is told what a file has, it is a text of which this is so.
+abbrev pub HasText : (List ℕ → Type 0) → Told → Type 0
+HasText right told = ForSome told (λ known. (text : List ℕ) × (known ≡ Some text) × right text)
 
--- The file at this path has the text of a server's cache, where that is told. Each other file has what it had.
+-- The file at this path has the text of a server's cache, where that is told; and it is told where it was before. Each other file has
+-- what it had.
 pub record HasSaved (path : List ℕ) (spec : ServeSpec) (rows : Option Tables) (left : Left) (old new : Files) : Type 0 where
-  pub saved : ForSome (new path) (IsSavedText spec rows left)
+  pub saved : HasText (IsSavedText spec rows left) (new path)
+  pub tells : IsSome (old path) → IsSome (new path)
   pub others : SameElsewhere path old new
 
 -- A server that was asked to, and that ended with all done, has saved its cache at the path that was named. Else each file has what it had.
@@ -64,7 +67,8 @@ SavesAt path ended spec rows left old new = SameTexts old new
 -- that failed, or memory ran out. Else nothing is written.
 abbrev pub EndsSaved : Option (Vec ℕ Global) → Status → Status → List Commit → List ShardView → Files → Files → Type 0
 EndsSaved (Some path) status.Done status.Done log shards old new =
-    ForSome (new path.items) (IsCacheOf log shards) × SameElsewhere path.items old new
+    HasText (IsCacheOf log shards) (new path.items) × (IsSome (old path.items) → IsSome (new path.items))
+    × SameElsewhere path.items old new
 EndsSaved (Some path) status.Done status.FileFault log shards old new = SameTexts old new
 EndsSaved (Some path) status.Done status.Memory log shards old new = SameTexts old new
 EndsSaved (Some path) status.Done other log shards old new = ⊥

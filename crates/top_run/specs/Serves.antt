@@ -13,6 +13,9 @@ use Rattle.top_run.specs.declared.runs.Status.TheVariants as status
 use Rattle.top_run.specs.declared.serves.Served.{Served}
 use Rattle.top_run.specs.declared.serves.Begun.{Begun}
 use Rattle.top_run.specs.declared.serves.Begun.TheVariants as cache
+use Rattle.top_run.specs.declared.serves.ColdCause.{ColdCause}
+use Rattle.top_run.specs.declared.serves.ColdCause.TheVariants as why
+use Rattle.top_run.specs.Begins.{Beginning, BeginsAs, FailOnlyTold, FilesSeen}
 use Rattle.conn_server.specs.declared.ends.LineEnd.{LineEnd}
 use Rattle.run_words.specs.declared.words.ServeSpec.{ServeSpec}
 use Rattle.top_run.specs.Runs.{Held, Tells, Left, left_at, Prints, CountsWhere, is_write_fault, is_door_fault, is_file_fault, IsUnasked, IsNotStarted}
@@ -33,10 +36,19 @@ serve_keep = Some 256
 unfoldable pub ready_line : List ℕ
 ready_line = line (codes "ready" ∷ [])
 
--- The line before it, where the cache has a file: that so many entries were taken over from it, or that none was.
+-- The words of the line that says why nothing was taken over.
+abbrev pub cold_words : ColdCause → List (List ℕ)
+cold_words why.NoFile = codes "no" ∷ codes "file" ∷ []
+cold_words why.FileFault = codes "file" ∷ codes "fault" ∷ []
+cold_words why.NoCache = codes "no" ∷ codes "cache" ∷ []
+cold_words why.OtherRows = codes "other" ∷ codes "rows" ∷ []
+cold_words why.StoreFault = codes "store" ∷ codes "fault" ∷ []
+cold_words why.Memory = codes "memory" ∷ []
+
+-- The line before it, where the cache has a file: that so many entries were taken over from it, or why none was.
 unfoldable pub begun_line : Begun → List ℕ
 begun_line cache.New = []
-begun_line cache.Cold = line (codes "cold" ∷ [])
+begun_line (cache.Cold cause) = line (codes "cold" ∷ cold_words cause)
 begun_line (cache.Warm rows) = line (codes "warm" ∷ decimal rows ∷ [])
 
 -- What is written once the door is bound, by how the cache began.
@@ -99,14 +111,16 @@ pub record HasServed {W : Type 0} (sinks : Sinks W) (spec : ServeSpec) (begun : 
   pub writes : CountsWhere sinks.faults (is_write_fault served.status) old new
   pub doors : CountsWhere (λ (door : DoorSeen). door.faults) (is_door_fault served.status) before after
 
--- How a run went: where it was made, what was known before and after it, of its door too, what it leaves, what loads that ended
--- before left, how many bytes were written, and how each line ended.
+-- How a run went: where it was made, what was known before and after it, of its door and its files too, what it leaves, what loads that
+-- ended before left, how many bytes were written, and how each line ended.
 pub record Course : Type 0 where
   pub held : Held
   pub before : Tells
   pub after : Tells
   pub door_before : DoorSeen
   pub door_after : DoorSeen
+  pub files_before : FilesSeen
+  pub files_after : FilesSeen
   pub left : Left
   pub earlier : List Left
   pub ends : List LineEnd
@@ -121,25 +135,39 @@ phase_left phase = record {
 }
 
 -- The course of a run that ended so, of which these are known.
-abbrev pub course_of : {K : Type 0} → Held → Tells → Tells → DoorSeen → DoorSeen → RunEnd K → Course
-course_of held before after door_before door_after end = record {
+abbrev pub course_of : {K : Type 0} → Held → Tells → Tells → DoorSeen → DoorSeen → FilesSeen → FilesSeen → RunEnd K → Course
+course_of held before after door_before door_after files_before files_after end = record {
   held = held;
   before = before;
   after = after;
   door_before = door_before;
   door_after = door_after;
+  files_before = files_before;
+  files_after = files_after;
   left = left_at end;
   earlier = map phase_left end.earlier.items;
   ends = end.ends.items;
   written = end.written;
 }
 
--- A server ended so that had begun. It leaves what a run over a hub leaves whose shards roll.
+-- What is known in this course of how a server's cache began, where these were its opening rows and so many of the keeper's calls failed.
+abbrev pub beginning_in : Course → Tables → ℕ → Beginning
+beginning_in course opening failed = record {
+  files_before = course.files_before;
+  files_after = course.files_after;
+  opening = opening;
+  rows = course.after.rows;
+  failed = failed;
+}
+
+-- A server ended so that had begun, and how its cache began is told. It leaves what a run over a hub leaves whose shards roll.
 pub record IsServed (spec : ServeSpec) (ended : Status) (course : Course) : Type 0 where
-  pub begun : Begun
-  pub begins : BeginsBy spec.warm begun
   pub opening : Tables
   pub failed : ℕ
+  pub begun : Begun
+  pub begins : BeginsBy spec.warm begun
+  pub begins_as : BeginsAs spec.warm spec.shards (beginning_in course opening failed) begun
+  pub fail_only_told : FailOnlyTold begun ended course.files_before course.files_after
   pub kept : IsKept (serve_shape spec) serve_keep course.held course.before course.after course.left opening failed
   pub attended : IsAttended spec begun ended course.before.taken course.after.taken
       course.door_before course.door_after course.ends course.written

@@ -298,11 +298,6 @@ pub record IsEmptyFor (dump : Dump) (shard : ShardView) : Type 0 where
   pub count : dump.count ≡ shard.terms.count
   pub right : IsDumpText (dump_text dump) dump
 
--- A shard loaded some rows beside a store, and was this one before.
-pub record IsFilled (known_rows : Option Tables) (opening : Tables) (old new : ShardView) : Type 0 where
-  pub rows : List DumpRow
-  pub loaded : IsLoadedWith known_rows opening rows old new
-
 -- Of a store only sessions that read have begun since, and its keeper was asked, which may have failed.
 pub record AsksOn (old new : StoreView) : Type 0 where
   pub opening_is : new.ledger.opening ≡ old.ledger.opening

@@ -1,12 +1,13 @@
 // The dumps of shards, which are read at once, and the lines that tell of them.
-ghost use Rattle.std.specs.Prelude.{◌≡◌, ◌<◌, ◌≤◌, ◌++◌, ℕ, All, List, Option, IfOk, IfErr, OnOk, length};
-ghost use Rattle.sql_keeper.specs.declared.stores.Commit.{Commit};
+ghost use Rattle.std.specs.Prelude.{◌≡◌, ◌≤◌, ◌++◌, ℕ, All, List, Option, IfOk, IfErr, OnOk, length};
 ghost use Rattle.run_audit.specs.Findings.{AreNumbered, AreWhole};
+ghost use Rattle.shard_dump.specs.declared.rows.Dump.{Dump};
+ghost use Rattle.shard_dump.specs.Texts.{IsDumpText};
 ghost use Rattle.top_run.specs.declared.dumps.Dumped.{Dumped};
 ghost use Rattle.top_run.specs.Runs.{Prints, RoseWhere};
 ghost use Rattle.top_run.specs.Plays.{at_write};
 ghost use Rattle.top_run.specs.Warms.{dump_line, IsLinesPart};
-ghost use Rattle.top_run.specs.Warming.{AreDumped, HasBytes, IsDumped, lines_in, stop_status};
+ghost use Rattle.top_run.specs.Warming.{AreDumped, HasBytes, lines_in, stop_status};
 
 use crate::phases::stop_status;
 use crate::plays::Stop;
@@ -15,7 +16,7 @@ use crate::summaries::push_field;
 use iq_outside::Sink;
 use key_shard::Shard;
 use rows_model::Memory;
-use shard_dump::{Dump, DumpFault, dump, read_dump};
+use shard_dump::{Dump, DumpFault, LastTouches, dump_beside, read_dump};
 use sql_keeper::Commit;
 use std::alloc::Global;
 
@@ -26,7 +27,7 @@ pub(crate) struct Dumped {
     pub(crate) bytes: u64,
 }
 
-/// The dumps of the shards, beside this log.
+/// The dumps of the shards, beside this log. Each is written as text, which is read at once.
 pub(crate) fn dumps_of(
     alloc: Global,
     shards: &[Shard],
@@ -39,22 +40,23 @@ pub(crate) fn dumps_of(
     requires roomy { All (λ shard. shard.terms.room ≤ 65536) shards.now }
     ensures { IfOk result (λ dumps. AreDumped log.now shards.now dumps.items) }
 {
+    let touches = LastTouches::of(alloc, log)?;
     let mut dumps = Vec::with_capacity(alloc, shards.len())?;
     for shard in shards {
-        dumps.push_reserved(dump_one(alloc, shard, log)?);
+        let text = dump_beside(alloc, shard, &touches)?;
+        dumps.push_reserved(dumped_in(alloc, text.as_slice())?);
     }
     Ok(dumps)
 }
 
-/// The dump of a shard, beside this log. Its text is read at once.
-fn dump_one(alloc: Global, shard: &Shard, log: &[Commit]) -> Result<Dumped, Memory>
-    requires one_of { shard.now.terms.no < shard.now.terms.count }
-    requires few { shard.now.terms.count ≤ 64 }
-    requires roomy { shard.now.terms.room ≤ 65536 }
-    ensures { IfOk result (IsDumped log.now shard.now) }
+/// The dump of which this is the text, and how many bytes that has.
+fn dumped_in(alloc: Global, text: &[u8]) -> Result<Dumped, Memory>
+    requires { (dump : Dump) × IsDumpText text.now dump }
+    ensures only { (dump : Dump) → IsDumpText text.now dump →
+        IfOk result (λ dumped. dumped.dump ≡ dump) }
+    ensures bytes { IfOk result (λ dumped. dumped.bytes ≡ length text.now) }
 {
-    let text = dump(alloc, shard, log)?;
-    match read_dump(alloc, text.as_slice()) {
+    match read_dump(alloc, text) {
         Ok(dump) => Ok(Dumped {
             dump,
             bytes: text.len() as u64,

@@ -10,6 +10,7 @@ ghost use Rattle.top_run.specs.declared.runs.Status.{Status};
 ghost use Rattle.top_run.specs.Runs.{Ended, Held, Input, told_by, moment, seen, held_at, left_at, IsRead, IsOpened, RoseWhere, CountsWhere, is_read_fault, is_write_fault, is_door_fault};
 ghost use Rattle.iq_outside.specs.Outside.{Rose};
 ghost use Rattle.top_run.specs.Commands.{AreEarlier, AreLines, AreNoCommand, AreSaved, CommandEnded};
+ghost use Rattle.top_run.specs.Begins.{files_seen};
 ghost use Rattle.top_run.specs.Serves.{course_of};
 ghost use Rattle.door_workers.specs.Attending.{seen_at};
 ghost use Rattle.top_run.specs.Plays.{IsNew, IsFinished, IsStopped, IsUnread, at_write};
@@ -171,7 +172,7 @@ pub fn replay<S: Source, W: Sink, K: Keeper>(
 ///
 /// Behind `serve` and the words of `--db`, `--warm <path>` names a file of the cache. The server takes its
 /// entries over, if it has the cache of so many shards and each value in it is what the store answers: a line
-/// `warm` with their number is written before `ready`. Else a line `cold` is, and the cache is new. Once all
+/// `warm` with their number is written before `ready`. Else a line `cold` says why, and the cache is new. Once all
 /// lines were served and the last line was written, the cache is written to this file: the entries of each shard
 /// that are right for the rows. If that fails the status is `FileFault`, and the file has what it had.
 ///
@@ -203,9 +204,10 @@ pub fn run<
     ensures ended { let tells = seen_at D.bound D.lines D.faults D.ended D.closed in
         let before = seen (told_by S.Source source.old) W.Sink K.Keeper sink.old keeper in
         let after = seen (told_by S.Source source.new) W.Sink K.Keeper sink.new result.keeper in
+        let files = files_seen F.CacheFile in
         CommandEnded (map (λ word. word.items) words.now) result.status (λ place.
         course_of (held_at place (K.holds keeper place)) before after
-        (tells door.old) (tells door.new) result) }
+        (tells door.old) (tells door.new) (files file.old) (files file.new) result) }
     ensures started { IsSome result.opening → K.is_started result.keeper }
     ensures unstarted { result.opening ≡ None → result.earlier.items ≡ [] →
         K.is_started result.keeper → K.is_started keeper }

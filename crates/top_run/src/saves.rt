@@ -1,5 +1,5 @@
 // How a server's cache is written to its file at the end.
-ghost use Rattle.std.specs.Prelude.{◌≡◌, ◌≤◌, All, IfOk, length};
+ghost use Rattle.std.specs.Prelude.{◌≡◌, ◌≢◌, ◌≤◌, All, IfOk, length};
 ghost use Rattle.std.specs.Bool.{IsFalse};
 ghost use Rattle.iq_outside.specs.Outside.{Rose};
 ghost use Rattle.run_audit.specs.Findings.{AreNumbered};
@@ -11,7 +11,7 @@ use crate::runs::Status;
 use cache_file::{CacheFile, cache_text};
 use key_shard::Shard;
 use rows_model::Memory;
-use shard_dump::dump;
+use shard_dump::{LastTouches, dump_beside};
 use sql_keeper::Commit;
 use std::alloc::Global;
 
@@ -32,6 +32,7 @@ pub(crate) fn saved<F: CacheFile>(
     ensures saves { EndsSaved path.now status result log.now shards.now
         (F.text_at file.old) (F.text_at file.new) }
     ensures file_fault { result ≡ Status.FileFault → Rose (F.faults file.old) (F.faults file.new) }
+    ensures no_file_fault { (result ≢ Status.FileFault) → F.faults file.new ≡ F.faults file.old }
     ensures file_never_falls { F.faults file.old ≤ F.faults file.new }
 {
     let (Some(path), Status::Done) = (path, status) else {
@@ -53,9 +54,10 @@ fn saved_text(alloc: Global, shards: &[Shard], log: &[Commit]) -> Result<Vec<u8>
     requires roomy { All (λ shard. shard.terms.room ≤ 65536) shards.now }
     ensures { IfOk result (λ text. IsCacheOf log.now shards.now text.items) }
 {
+    let touches = LastTouches::of(alloc, log)?;
     let mut texts = Vec::with_capacity(alloc, shards.len())?;
     for shard in shards {
-        texts.push_reserved(dump(alloc, shard, log)?);
+        texts.push_reserved(dump_beside(alloc, shard, &touches)?);
     }
     cache_text(alloc, texts.as_slice())
 }

@@ -10,8 +10,9 @@ ghost use Rattle.shard_lock.specs.Names.{AreAll, AreLegal, IsNamedStore};
 ghost use Rattle.bound_hub.specs.Ties.{IsNewStore};
 ghost use Rattle.top_run.specs.Ready.{IsServeReady, MakeHub, NamesParts};
 ghost use Rattle.top_run.specs.Runs.{Held, Input, Prints, moment, seen, held_at, IsOpened, RoseWhere, CountsWhere, left_at, is_read_fault, is_write_fault, is_door_fault, is_file_fault};
+ghost use Rattle.top_run.specs.Begins.{FilesSeen, HasBegun, beginning_of, files_seen};
 ghost use Rattle.top_run.specs.Saves.{SavesAt};
-ghost use Rattle.top_run.specs.Serves.{serve_shape, serve_keep, begun_line, ready_text, served_line, BeginsBy, IsServedText, HasServed, course_of, ServeEnded};
+ghost use Rattle.top_run.specs.Serves.{serve_shape, serve_keep, begun_line, cold_words, ready_text, served_line, BeginsBy, IsServedText, HasServed, course_of, ServeEnded};
 ghost use Rattle.top_run.specs.Warming.{AreRight, IsAnew, IsServeReadyAnew, NamesAnew};
 ghost use Rattle.run_words.specs.Words.{IsServe, most_served};
 ghost use Rattle.door_workers.specs.Attending.{seen_at};
@@ -19,6 +20,7 @@ ghost use Rattle.door_workers.specs.Ends.{AreServed};
 ghost use Rattle.top_run.specs.Works.{hub_terms};
 ghost use Rattle.top_run.specs.declared.runs.Status.{Status};
 ghost use Rattle.top_run.specs.declared.serves.Begun.{Begun};
+ghost use Rattle.std.specs.List.{join_with_byte};
 
 use crate::endings::{not_started, start_status};
 use crate::hubs::{CAP, HubParts, LIFE, Parts, desks_over, ended_hub, parts_for};
@@ -58,9 +60,26 @@ pub enum Begun {
     /// It has no file, and is new.
     New,
     /// It has a file, of which nothing was taken over, and is new.
-    Cold,
+    Cold { cause: ColdCause },
     /// It has so many entries that were taken over from its file.
     Warm { rows: u64 },
+}
+
+/// Why nothing is taken over from the file of a cache.
+#[derive(Clone, Copy)]
+pub enum ColdCause {
+    /// There is no such file.
+    NoFile,
+    /// The file couldn't be read.
+    FileFault,
+    /// What the file has is no cache of so many shards, or one of more rows than a shard has room for.
+    NoCache,
+    /// A value in it isn't what the store answers.
+    OtherRows,
+    /// A call of the store failed.
+    StoreFault,
+    /// Memory ran out.
+    Memory,
 }
 
 /// What all parts of a server share, and none changes.
@@ -111,8 +130,10 @@ pub(crate) fn serve<
         let before = seen unread W.Sink K.Keeper sink.old keeper in
         let after = seen unread W.Sink K.Keeper sink.new result.keeper in
         let tells = seen_at D.bound D.lines D.faults D.ended D.closed in
+        let files = files_seen F.CacheFile in
         ServeEnded result.status spec.now
-        (course_of held before after (tells door.old) (tells door.new) result) }
+        (course_of held before after (tells door.old) (tells door.new)
+        (files file.old) (files file.new) result) }
     ensures started { IsSome result.opening → K.is_started result.keeper }
     ensures unstarted { result.opening ≡ None → K.is_started result.keeper → K.is_started keeper }
     ensures writes { CountsWhere W.faults (is_write_fault result.status) sink.old sink.new }
@@ -208,8 +229,10 @@ fn serve_begun<
         let before = moment unread (W.taken sink.old) (W.faults sink.old) rows store.faults in
         let after = seen unread W.Sink K.Keeper sink.new result.keeper in
         let tells = seen_at D.bound D.lines D.faults D.ended D.closed in
+        let files = files_seen F.CacheFile in
         ServeEnded result.status server.now.spec.now
-        (course_of held before after (tells door.old) (tells door.new) result) }
+        (course_of held before after (tells door.old) (tells door.new)
+        (files file.old) (files file.new) result) }
     ensures started { K.is_started result.keeper }
     ensures began { IsSome result.opening }
     ensures writes { CountsWhere W.faults (is_write_fault result.status) sink.old sink.new }
@@ -281,14 +304,17 @@ fn serve_store<
         H.terms H.opening H.cap H.known_rows H.name H.parts H.word H.before H.begun H.failed
         ready.parts.hub }
     requires never_fell { ForSome N.count (λ start. start ≤ store.faults) }
-    ensures ended { (unread : Input) (rows : Option Tables) (start : ℕ) (held : Held) →
-        N.count ≡ Some start →
+    ensures ended { (unread : Input) (rows : Option Tables) (start : ℕ) (held : Held)
+        (first : FilesSeen) → N.count ≡ Some start →
         IsOpened held (serve_shape server.now.spec.now) store.ledger.opening store.known_rows →
+        HasBegun server.now.spec.now
+        (beginning_of first (files_seen F.CacheFile file.old) store) ready.begun →
         let before = moment unread (W.taken sink.old) (W.faults sink.old) rows start in
         let after = seen unread W.Sink K.Keeper sink.new result.keeper in
         let tells = seen_at D.bound D.lines D.faults D.ended D.closed in
         ServeEnded result.status server.now.spec.now
-        (course_of held before after (tells door.old) (tells door.new) result) }
+        (course_of held before after (tells door.old) (tells door.new)
+        first (files_seen F.CacheFile file.new) result) }
     ensures started { K.is_started result.keeper }
     ensures began { IsSome result.opening }
     ensures writes { CountsWhere W.faults (is_write_fault result.status) sink.old sink.new }
@@ -390,6 +416,7 @@ fn serve_over_hub<
     ensures legal { AreLegal result.shards.items }
     ensures right { IsSome result.store.known_rows →
         AreRight H.opening result.store.ledger.log result.shards.items }
+    ensures never_fewer { H.failed ≤ result.store.ledger.failed }
     ensures served { let tells = seen_at D.bound D.lines D.faults D.ended D.closed in
         HasServed W.Sink server.now.spec.now begun result.served sink.old sink.new
         (tells door.old) (tells door.new) }
@@ -626,8 +653,10 @@ fn begun_line(alloc: Global, begun: Begun) -> Result<Vec<u8>, Memory>
     let mut text = Vec::new(alloc);
     match begun {
         Begun::New => Ok(text),
-        Begun::Cold => {
-            text.extend_from_slice(b"cold\n")?;
+        Begun::Cold { cause } => {
+            text.extend_from_slice(b"cold ")?;
+            text.extend_from_slice(cold_words(cause))?;
+            text.push(b'\n')?;
             Ok(text)
         }
         Begun::Warm { rows } => {
@@ -635,6 +664,20 @@ fn begun_line(alloc: Global, begun: Begun) -> Result<Vec<u8>, Memory>
             text.push(b'\n')?;
             Ok(text)
         }
+    }
+}
+
+/// The words that say why nothing was taken over.
+fn cold_words(cause: ColdCause) -> &'static [u8]
+    ensures { result.now ≡ join_with_byte 32 (cold_words cause) }
+{
+    match cause {
+        ColdCause::NoFile => b"no file",
+        ColdCause::FileFault => b"file fault",
+        ColdCause::NoCache => b"no cache",
+        ColdCause::OtherRows => b"other rows",
+        ColdCause::StoreFault => b"store fault",
+        ColdCause::Memory => b"memory",
     }
 }
 

@@ -16,6 +16,7 @@ ghost use Rattle.door_workers.specs.DoorSeen.{DoorSeen};
 ghost use Rattle.top_run.specs.declared.dumps.Dumped.{Dumped};
 ghost use Rattle.top_run.specs.declared.runs.Status.{Status};
 ghost use Rattle.top_run.specs.Runs.{Held, Input, Prints, moment, seen, held_at, IsOpened, RoseWhere, CountsWhere, is_read_fault, is_write_fault};
+ghost use Rattle.top_run.specs.Begins.{FilesSeen};
 ghost use Rattle.top_run.specs.Serves.{course_of, phase_left};
 ghost use Rattle.top_run.specs.Works.{work_shape, first_spent, at_write_failed, IsNameOf, IsSummary};
 ghost use Rattle.top_run.specs.Ready.{IsReady, NamesParts};
@@ -60,11 +61,11 @@ pub(crate) fn warm<W: Sink, K: Keeper + Send, C: Clock, G: Gate, R: Threads + Wa
     gate: &G,
 ) -> RunEnd<K>
     requires { IsWork spec.now }
-    ensures ended { (unread : Input) (door : DoorSeen) →
+    ensures ended { (unread : Input) (door : DoorSeen) (files : FilesSeen) →
         let held = held_at place.now (K.holds keeper place.now) in
         let before = seen unread W.Sink K.Keeper sink.old keeper in
         let after = seen unread W.Sink K.Keeper sink.new result.keeper in
-        WarmEnded result.status spec.now (course_of held before after door door result) }
+        WarmEnded result.status spec.now (course_of held before after door door files files result) }
     ensures started { IsSome result.opening → K.is_started result.keeper }
     ensures unstarted { result.opening ≡ None → result.earlier.items ≡ [] →
         K.is_started result.keeper → K.is_started keeper }
@@ -132,12 +133,13 @@ fn run_first<
     requires parts { NamesParts H.name H.parts H.word H.before H.begun H.failed ready.parts.hub }
     requires none_earlier { earlier.items ≡ [] }
     requires for_one { 1 ≤ vec_capacity earlier }
-    ensures ended { (unread : Input) (door : DoorSeen) (rows : Option Tables) (held : Held) →
+    ensures ended { (unread : Input) (door : DoorSeen) (files : FilesSeen)
+        (rows : Option Tables) (held : Held) →
         IsOpened held (work_shape warming.now.spec.now) store.ledger.opening store.known_rows →
         let before = moment unread (W.taken sink.old) (W.faults sink.old) rows store.faults in
         let after = seen unread W.Sink K.Keeper sink.new result.keeper in
         WarmEnded result.status warming.now.spec.now
-        (course_of held before after door door result) }
+        (course_of held before after door door files files result) }
     ensures started { K.is_started result.keeper }
     ensures some_earlier { result.earlier.items ≢ [] }
     ensures writes { CountsWhere W.faults (is_write_fault result.status) sink.old sink.new }
@@ -201,7 +203,8 @@ fn dump_first<N: Start, W: Sink, K: Keeper + Send, C: Clock, G: Gate, R: Threads
     requires run { HasRunLoad warming.now.spec.now first.store first.shards.items }
     requires never_fell { ForSome N.count (λ start. start ≤ first.store.faults) }
     requires rooms { HasRooms first.shards.items first.histories first.earlier }
-    ensures ended { (unread : Input) (door : DoorSeen) (rows : Option Tables) (start : ℕ)
+    ensures ended { (unread : Input) (door : DoorSeen) (files : FilesSeen)
+        (rows : Option Tables) (start : ℕ)
         (held : Held) (taken : Option (List ℕ)) (failed : ℕ) (found : Finding) (text : List ℕ) →
         N.count ≡ Some start →
         IsOpened held (work_shape warming.now.spec.now) first.store.ledger.opening
@@ -212,7 +215,7 @@ fn dump_first<N: Start, W: Sink, K: Keeper + Send, C: Clock, G: Gate, R: Threads
         let before = moment unread taken failed rows start in
         let after = seen unread W.Sink K.Keeper sink.new result.keeper in
         WarmEnded result.status warming.now.spec.now
-        (course_of held before after door door result) }
+        (course_of held before after door door files files result) }
     ensures started { K.is_started result.keeper }
     ensures some_earlier { result.earlier.items ≢ [] }
     ensures writes { CountsWhere W.faults (is_write_fault result.status) sink.old sink.new }
@@ -250,7 +253,8 @@ fn load_second<N: Start, W: Sink, K: Keeper + Send, C: Clock, G: Gate, R: Thread
     requires never_fell { ForSome N.count (λ start. start ≤ half.store.faults) }
     requires to_load { AreToLoad warming.now.spec.now (left_in half.earlier.items)
         half.store.known_rows half.store.ledger.opening dumps.items }
-    ensures ended { (unread : Input) (door : DoorSeen) (rows : Option Tables) (start : ℕ)
+    ensures ended { (unread : Input) (door : DoorSeen) (files : FilesSeen)
+        (rows : Option Tables) (start : ℕ)
         (held : Held) (taken : Option (List ℕ)) (failed : ℕ) (opening : Tables) (text : List ℕ) →
         N.count ≡ Some start →
         IsHalf opening half.store half.earlier.items half.spent →
@@ -260,7 +264,7 @@ fn load_second<N: Start, W: Sink, K: Keeper + Send, C: Clock, G: Gate, R: Thread
         let before = moment unread taken failed rows start in
         let after = seen unread W.Sink K.Keeper sink.new result.keeper in
         WarmEnded result.status warming.now.spec.now
-        (course_of held before after door door result) }
+        (course_of held before after door door files files result) }
     ensures started { K.is_started result.keeper }
     ensures some_earlier { result.earlier.items ≡ half.earlier.items }
     ensures writes { CountsWhere W.faults (is_write_fault result.status) sink.old sink.new }
@@ -330,7 +334,8 @@ fn run_second<
     requires named { NamesAnew (work_shape warming.now.spec.now) None half.store N.count H.start
         H.terms H.opening H.cap H.known_rows H.name H.parts H.word H.before H.begun H.failed
         ready.parts.hub }
-    ensures ended { (unread : Input) (door : DoorSeen) (rows : Option Tables) (start : ℕ)
+    ensures ended { (unread : Input) (door : DoorSeen) (files : FilesSeen)
+        (rows : Option Tables) (start : ℕ)
         (held : Held) (taken : Option (List ℕ)) (failed : ℕ) (spec : WorkSpec) (opening : Tables)
         (text : List ℕ) →
         N.count ≡ Some start →
@@ -341,7 +346,7 @@ fn run_second<
         Prints taken (W.taken sink.old) (front_of text (left_in half.earlier.items)) written →
         let before = moment unread taken failed rows start in
         let after = seen unread W.Sink K.Keeper sink.new result.keeper in
-        WarmEnded result.status spec (course_of held before after door door result) }
+        WarmEnded result.status spec (course_of held before after door door files files result) }
     ensures started { K.is_started result.keeper }
     ensures began { IsSome result.opening }
     ensures some_earlier { result.earlier.items ≡ half.earlier.items }

@@ -4,6 +4,7 @@ use Rattle.run_words.specs.declared.words.WordsFault.TheVariants as fault
 use Rattle.top_run.specs.declared.runs.Status.{Status}
 use Rattle.top_run.specs.Commands.{IsTextPart}
 use Rattle.door_workers.specs.Attending.{seen_at}
+use Rattle.top_run.specs.Begins.{files_seen}
 use Rattle.top_run.specs.Runs.{told_by, RoseWhere}
 use Rattle.top_run.proofs.PrintLemmas.{print_none}
 use Rattle.top_run.proofs.CommandLemmas.{command_ok, command_err, lines_ok, lines_err, load_not_failed, load_no_door, load_no_file, load_no_replay, no_command, server_not_failed, server_no_replay, earlier_ok, earlier_err, replay_no_file, saved_ok, saved_err, text_no_file, warm_not_failed, warm_no_file, warm_no_door, warm_no_replay}
@@ -196,7 +197,7 @@ returns-in-Ok-Warm-clause-ended g c =
     command_ok _ c.read_words.result _ _ c.read_words.ensures.accepts c.read_words.ensures.read c.read_words.ensures.usage
     c.in-Ok-Warm.field-0 (words.Warm c.in-Ok-Warm.place c.in-Ok-Warm.spec) c.in-Ok-Warm.is c.in-Ok-Warm.field-0-is (
       record { left = refl; count = refl },
-      c.warm.ensures.ended (told_by g.S.Source c.args.source.now) _,
+      c.warm.ensures.ended (told_by g.S.Source c.args.source.now) _ _,
       record { no_ends = c.warm.ensures.no_ends; door = refl },
     )
 
@@ -204,12 +205,14 @@ pub returns-in-Ok-Warm-clause-doors : goal.returns-in-Ok-Warm-clause-doors
 returns-in-Ok-Warm-clause-doors g c =
     subst (λ (b : Bool). RoseWhere g.D.Door.faults b c.args.door.now c.args.door.now)
     (sym (warm_no_door c.warm.result.status c.in-Ok-Warm.spec _
-    (c.warm.ensures.ended (told_by g.S.Source c.args.source.now) (seen_at g.D.Door.bound g.D.Door.lines g.D.Door.faults g.D.Door.ended g.D.Door.closed c.args.door.now)))) refl
+    (c.warm.ensures.ended (told_by g.S.Source c.args.source.now) (seen_at g.D.Door.bound g.D.Door.lines g.D.Door.faults g.D.Door.ended g.D.Door.closed c.args.door.now)
+    (files_seen g.F.CacheFile c.args.file.now)))) refl
 
 pub returns-in-Ok-Warm-clause-faultless : goal.returns-in-Ok-Warm-clause-faultless
 returns-in-Ok-Warm-clause-faultless g c =
     warm_not_failed c.warm.result.status c.in-Ok-Warm.spec _
-    (c.warm.ensures.ended (told_by g.S.Source c.args.source.now) (seen_at g.D.Door.bound g.D.Door.lines g.D.Door.faults g.D.Door.ended g.D.Door.closed c.args.door.now))
+    (c.warm.ensures.ended (told_by g.S.Source c.args.source.now) (seen_at g.D.Door.bound g.D.Door.lines g.D.Door.faults g.D.Door.ended g.D.Door.closed c.args.door.now)
+    (files_seen g.F.CacheFile c.args.file.now))
 
 pub returns-in-Ok-Warm-clause-done : goal.returns-in-Ok-Warm-clause-done
 returns-in-Ok-Warm-clause-done g c = λ place are done.
@@ -267,7 +270,8 @@ returns-in-Ok-Work-clause-file_fault g c = λ is.
 pub returns-in-Ok-Warm-clause-file_fault : goal.returns-in-Ok-Warm-clause-file_fault
 returns-in-Ok-Warm-clause-file_fault g c = λ is.
     absurd (warm_no_file c.warm.result.status c.in-Ok-Warm.spec _
-    (c.warm.ensures.ended (told_by g.S.Source c.args.source.now) (seen_at g.D.Door.bound g.D.Door.lines g.D.Door.faults g.D.Door.ended g.D.Door.closed c.args.door.now)) is)
+    (c.warm.ensures.ended (told_by g.S.Source c.args.source.now) (seen_at g.D.Door.bound g.D.Door.lines g.D.Door.faults g.D.Door.ended g.D.Door.closed c.args.door.now)
+    (files_seen g.F.CacheFile c.args.file.now)) is)
 
 pub returns-in-Ok-Page-clause-file_fault : goal.returns-in-Ok-Page-clause-file_fault
 returns-in-Ok-Page-clause-file_fault g c = λ is.

@@ -7,10 +7,15 @@ use Rattle.top_run.proofs.serves.begun_line.Goals as goal
 pub returns-in-New : goal.returns-in-New
 returns-in-New c = c.new-text.ensures.items ∙ sym (ap begun_line c.in-New.is ∙ new_is)
 
-pub returns-in_ok-extend_from_slice-in-Cold : goal.returns-in_ok-extend_from_slice-in-Cold
-returns-in_ok-extend_from_slice-in-Cold c =
-    c.in_ok-extend_from_slice-in-Cold.ensures.items ∙ ap (λ (bytes : List ℕ). bytes ++ codes "cold\n") c.new-text.ensures.items
-    ∙ sym (ap begun_line c.in-Cold.is ∙ cold_is)
+pub returns-in_ok-push-in-Cold : goal.returns-in_ok-push-in-Cold
+returns-in_ok-push-in-Cold c =
+    c.in_ok-push-in-Cold.ensures.items
+    ∙ ap (λ (bytes : List ℕ). bytes ++ 10 ∷ [])
+    (c.in_ok-extend_from_slice-in-Cold-2.ensures.items
+    ∙ ap (λ (bytes : List ℕ). bytes ++ c.cold_words.result.now)
+    (c.in_ok-extend_from_slice-in-Cold.ensures.items ∙ ap (λ (bytes : List ℕ). bytes ++ codes "cold ") c.new-text.ensures.items)
+    ∙ ap (λ (bytes : List ℕ). codes "cold " ++ bytes) c.cold_words.ensures)
+    ∙ sym (ap begun_line c.in-Cold.is ∙ cold_is c.in-Cold.cause)
 
 pub returns-in_ok-push-in-Warm : goal.returns-in_ok-push-in-Warm
 returns-in_ok-push-in-Warm c =

@@ -3,6 +3,7 @@ use Rattle.std.specs.Option.{ForSome}
 use Rattle.rows_model.specs.Rows.{Tables}
 use Rattle.sql_keeper.specs.Stores.{Ledger}
 use Rattle.top_run.specs.Runs.{IsOpened}
+use Rattle.top_run.specs.Begins.{files_seen}
 use Rattle.top_run.specs.Serves.{serve_shape}
 use Rattle.top_run.specs.Warming.{AsksOn}
 use Rattle.top_run.proofs.KeepLemmas.{opened_since}
@@ -67,9 +68,10 @@ returns-clause-ended g c = λ unread rows held opens.
     let store = c.shards_begun-shards.new.store in
     let shape = serve_shape c.args.server.now.spec.now in
     let asks : AsksOn given store = (rw c.named-store.ensures at c.shards_begun-shards.ensures.asks_on) in
-    c.serve_store.ensures.ended unread rows given.faults held c.requires.start
+    c.serve_store.ensures.ended unread rows given.faults held (files_seen g.F.CacheFile c.args.file.now) c.requires.start
     (subst (λ (opening : Tables). IsOpened held shape opening store.known_rows) (sym asks.opening_is)
     (opened_since held shape given.ledger.opening given.known_rows store.known_rows asks.tells opens))
+    c.shards_begun-shards.ensures.begun
 
 pub returns-clause-keeper_never_falls : goal.returns-clause-keeper_never_falls
 returns-clause-keeper_never_falls g c =
@@ -83,8 +85,8 @@ returns-clause-saves g c =
 
 pub returns-clause-file_fault : goal.returns-clause-file_fault
 returns-clause-file_fault g c = λ is.
-    rose_since _ _ _ c.shards_begun-shards.ensures.file_never_falls (c.serve_store.ensures.file_fault is)
+    rose_since _ _ _ c.shards_begun-shards.ensures.begun.never_falls (c.serve_store.ensures.file_fault is)
 
 pub returns-clause-file_never_falls : goal.returns-clause-file_never_falls
 returns-clause-file_never_falls g c =
-    omega (arith, c.shards_begun-shards.ensures.file_never_falls, c.serve_store.ensures.file_never_falls)
+    omega (arith, c.shards_begun-shards.ensures.begun.never_falls, c.serve_store.ensures.file_never_falls)

@@ -1,9 +1,11 @@
-use Rattle.std.proofs.Common.{sym, subst}
+use Rattle.std.proofs.Common.{ap, arith, sym, subst}
+use Rattle.sql_keeper.specs.Stores.{StoreView}
 use Rattle.shard_lock.specs.Names.{AreLegal}
 use Rattle.run_words.specs.Words.{most_served}
 use Rattle.door_workers.specs.Attending.{seen_at}
 use Rattle.top_run.specs.Warming.{AreRight}
 use Rattle.top_run.proofs.WarmLemmas.{left_right, new_right}
+use Rattle.top_run.proofs.BeginLemmas.{least_of}
 use Rattle.top_run.proofs.ServeLemmas.{unserved_short, unserved_lines}
 use Rattle.top_run.proofs.serves.serve_over_hub.Goals as goal
 
@@ -29,3 +31,14 @@ returns-in-Err-clause-right g c = λ some.
 
 pub returns-in-Err-clause-legal : goal.returns-in-Err-clause-legal
 returns-in-Err-clause-legal g c = subst AreLegal (sym c.in-Err.ensures.1) c.requires.legal
+
+pub returns-in-Ok-clause-never_fewer : goal.returns-in-Ok-clause-never_fewer
+returns-in-Ok-clause-never_fewer g c =
+    let left = c.into_parts-store.ensures.kept in
+    least_of g.H.BoundName.failed left.0.failures c.into_parts-store.result.0.ledger.failed left.1.failures c.requires.new.few
+
+pub returns-in-Err-clause-never_fewer : goal.returns-in-Err-clause-never_fewer
+returns-in-Err-clause-never_fewer g c =
+    let same = ap (λ (s : StoreView). s.ledger.failed) c.in-Err.ensures.0 in
+    let named = c.requires.new.failed_is in
+    omega (arith, same, named)

@@ -5,13 +5,15 @@ use Rattle.rows_model.specs.Rows.{Tables}
 use Rattle.std.proofs.lemmas.List.{length-map}
 use Rattle.key_shard.specs.Shards.{kept_of}
 use Rattle.top_run.specs.Runs.{CountsWhere, moment, IsOpened, kept_in, is_read_fault, is_write_fault, is_door_fault}
-use Rattle.top_run.specs.Serves.{serve_shape, serve_keep, Course}
+use Rattle.top_run.specs.Begins.{beginning_of, files_seen}
+use Rattle.top_run.specs.Serves.{serve_shape, serve_keep, Course, beginning_in}
 use Rattle.door_workers.specs.Attending.{seen_at}
 use Rattle.top_run.proofs.KeepLemmas.{opened_since}
 use Rattle.top_run.specs.declared.runs.Status.{Status}
 use Rattle.top_run.specs.declared.runs.Status.TheVariants as status
 use Rattle.top_run.specs.Warming.{AreRight}
 use Rattle.top_run.proofs.AnewLemmas.{new_store}
+use Rattle.top_run.proofs.BeginLemmas.{begins_still}
 use Rattle.top_run.proofs.SaveLemmas.{attended_saved, by_end, ends_as, rooms_of, saves_at}
 use Rattle.top_run.proofs.WarmStartLemmas.{make_serving}
 use Rattle.top_run.proofs.WorkLemmas.{last_of, left_of, is_kept, numbered_of}
@@ -30,7 +32,7 @@ serve_over_hub-store-requires-clause-new g c =
     (new_store (serve_shape c.args.server.now.spec.now) serve_keep c.args.store _ _ _ _ _ _ _ _ _ _ _ _ _ c.requires.anew c.requires.named)
 
 pub returns-clause-ended : goal.returns-clause-ended
-returns-clause-ended g c = λ unread rows start held starts opens.
+returns-clause-ended g c = λ unread rows start held first starts opens begun.
     let store = c.serve_over_hub-store.result.store in
     let shards = c.serve_over_hub-store.result.shards.items in
     let served = c.serve_over_hub-store.result.served in
@@ -56,6 +58,8 @@ returns-clause-ended g c = λ unread rows start held starts opens.
       after = after;
       door_before = tells c.args.door.now;
       door_after = tells c.serve_over_hub-store.new.door;
+      files_before = first;
+      files_after = files_seen g.F.CacheFile c.saved-status.new.file;
       left = left_of store (kept_in shards);
       earlier = [];
       ends = served.ends.items;
@@ -76,6 +80,19 @@ returns-clause-ended g c = λ unread rows start held starts opens.
     (served_ended c.saved-status.result spec course (record {
       begun = c.args.ready.begun;
       begins = c.requires.ready.begins;
+      begins_as =
+          begins_still spec.warm spec.shards (beginning_of first (files_seen g.F.CacheFile c.args.file.now) c.args.store)
+          (beginning_in course store.ledger.opening store.ledger.failed) c.args.ready.begun
+          (record {
+            files = refl;
+            opening = named.opening_is ∙ sym c.requires.named.opening_is;
+            tells = before_now;
+            fell_never = begun.never_falls;
+            files_on = c.saved-status.ensures.file_never_falls;
+            store_on = subst (λ (n : ℕ). n ≤ store.ledger.failed) c.requires.named.failed_is c.serve_over_hub-store.ensures.never_fewer;
+          })
+          begun.begins_as;
+      fail_only_told = λ fine unfaulted. c.saved-status.ensures.no_file_fault unfaulted ∙ begun.fail_only_told fine;
       opening = store.ledger.opening;
       failed = store.ledger.failed;
       kept = kept;

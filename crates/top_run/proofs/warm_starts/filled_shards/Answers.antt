@@ -1,6 +1,6 @@
-use Rattle.std.proofs.Common.{◌≡◌, ◌<◌, length, arith}
+use Rattle.std.proofs.Common.{◌≡◌, ◌<◌, ◌+◌, length, arith, refl}
 use Rattle.std.proofs.lemmas.Grind.{common_steps}
-use Rattle.top_run.proofs.WarmStartLemmas.{all_filled, asks_both, asks_same, next_empty, none_filled, one_filled}
+use Rattle.top_run.proofs.WarmStartLemmas.{all_filled, asks_both, asks_same, filled_with_all, next_empty, none_filled, one_filled, one_stops}
 use Rattle.top_run.proofs.warm_starts.filled_shards.Goals as goal
 
 pub loop-empty-init : goal.loop-empty-init
@@ -16,8 +16,8 @@ loop-empty-init g c = record {
 pub filled_shard-requires-clause-empty : goal.filled_shard-requires-clause-empty
 filled_shard-requires-clause-empty g c =
     let some : 0 < length c.loop-empty.empty.items = grind (arith, common_steps) in
-    next_empty c.args.spec.now _ _ c.loop-empty.empty.items c.loop-empty.filled.items c.loop-empty.dumps.items c.remove-shard.result c.remove-dump.result some
-    c.remove-shard.ensures.value c.remove-dump.ensures.value c.loop-empty.invariant.filling
+    next_empty c.args.spec.now _ _ c.args.dumps.items c.loop-empty.empty.items c.loop-empty.filled.items c.loop-empty.dumps.items c.loop-empty.rows
+    c.remove-shard.result c.remove-dump.result some c.remove-shard.ensures.value c.remove-dump.ensures.value c.loop-empty.invariant.filling
 
 pub loop-empty-preserved : goal.loop-empty-preserved
 loop-empty-preserved g c =
@@ -26,9 +26,12 @@ loop-empty-preserved g c =
     record {
       filling =
           rw c.push_reserved.ensures.items
-          (one_filled c.args.spec.now c.loop-empty.store c.filled_shard.new.store c.loop-empty.empty.items c.remove-shard.new.self.items c.loop-empty.filled.items
-          c.loop-empty.dumps.items c.remove-dump.new.self.items c.remove-shard.result c.in_ok-filled_shard.field-0 some c.remove-shard.ensures.value
-          c.remove-shard.ensures.items c.remove-dump.ensures.items c.filled_shard.ensures.asks_on c.in_ok-filled_shard.ensures.filled was.filling);
+          (one_filled c.args.spec.now c.loop-empty.store c.filled_shard.new.store c.args.dumps.items c.loop-empty.empty.items c.remove-shard.new.self.items
+          c.loop-empty.filled.items c.loop-empty.dumps.items c.remove-dump.new.self.items c.loop-empty.rows _ (c.loop-empty.rows + length c.remove-dump.result.rows) c.remove-shard.result
+          c.in-Ok-filled_shard.shard c.remove-dump.result some c.remove-shard.ensures.value c.remove-shard.ensures.items c.remove-dump.ensures.value
+          c.remove-dump.ensures.items c.filled_shard.ensures.asks_on c.in-Ok-filled_shard.ensures.filled c.in-Ok-filled_shard.ensures.room
+          c.requires.serve.few_shards refl
+          (λ small. grind (arith, common_steps, small, c.as_slice.ensures, c.saturating_add-rows.ensures)) was.filling);
       asks_on = asks_both c.args.store.now c.loop-empty.store c.filled_shard.new.store was.asks_on c.filled_shard.ensures.asks_on;
       room = grind (arith, common_steps, was.room, c.remove-shard.ensures.len, c.push_reserved.ensures.len, c.push_reserved.ensures.capacity);
     }
@@ -36,5 +39,18 @@ loop-empty-preserved g c =
 pub returns-clause-shards : goal.returns-clause-shards
 returns-clause-shards g c =
     let none : length c.loop-empty.empty.items ≡ 0 = grind (arith, common_steps) in
-    all_filled c.args.spec.now c.loop-empty.store.known_rows c.loop-empty.store.ledger.opening c.loop-empty.empty.items c.loop-empty.filled.items
-    c.loop-empty.dumps.items none c.requires.serve.some_shards c.loop-empty.invariant.filling
+    all_filled c.args.spec.now c.loop-empty.store.known_rows c.loop-empty.store.ledger.opening c.args.dumps.items c.loop-empty.empty.items
+    c.loop-empty.filled.items c.loop-empty.dumps.items c.loop-empty.rows none c.requires.serve.some_shards c.loop-empty.invariant.filling
+
+pub returns-clause-filled : goal.returns-clause-filled
+returns-clause-filled g c =
+    let none : length c.loop-empty.empty.items ≡ 0 = grind (arith, common_steps) in
+    filled_with_all c.args.spec.now c.loop-empty.store.known_rows c.loop-empty.store.ledger.opening c.args.dumps.items c.loop-empty.empty.items
+    c.loop-empty.filled.items c.loop-empty.dumps.items c.loop-empty.rows none c.loop-empty.invariant.filling
+
+pub returns-in-Err-clause-stopped : goal.returns-in-Err-clause-stopped
+returns-in-Err-clause-stopped g c =
+    let some : 0 < length c.loop-empty.empty.items = grind (arith, common_steps) in
+    one_stops c.args.spec.now c.loop-empty.store c.filled_shard.new.store c.args.dumps.items c.loop-empty.empty.items c.loop-empty.filled.items
+    c.loop-empty.dumps.items c.loop-empty.rows c.remove-dump.result c.in-Err.cause some c.remove-dump.ensures.value
+    c.loop-empty.invariant.filling c.in-Err.ensures.stopped

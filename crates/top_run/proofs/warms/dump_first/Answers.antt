@@ -40,7 +40,7 @@ load_second-requires-clause-to_load g c κs within =
     (made.half.opening_is ∙ ap (λ (left : Left). rows_after store.ledger.opening left.log) made.left))
 
 pub returns-in-Err-clause-ended : goal.returns-in-Err-clause-ended
-returns-in-Err-clause-ended g c = λ unread door rows start held taken failed found text starts opens summary prints.
+returns-in-Err-clause-ended g c = λ unread door files rows start held taken failed found text starts opens summary prints.
     let spec = c.args.warming.now.spec.now in
     let store = c.args.first.store in
     let shards = c.args.first.shards.items in
@@ -52,6 +52,8 @@ returns-in-Err-clause-ended g c = λ unread door rows start held taken failed fo
       after = after;
       door_before = door;
       door_after = door;
+      files_before = files;
+      files_after = files;
       left = nothing_left;
       earlier = left_by store shards ∷ [];
       ends = [];
@@ -74,7 +76,7 @@ returns-in-Err-clause-ended g c = λ unread door rows start held taken failed fo
     (subst (λ (bytes : List ℕ). Prints taken (g.W.Sink.taken c.args.sink.now) bytes c.args.written) (sym (append-nil text)) prints))))
 
 pub returns-in-Err-tell_dumps-clause-ended : goal.returns-in-Err-tell_dumps-clause-ended
-returns-in-Err-tell_dumps-clause-ended g c = λ unread door rows start held taken failed found text starts opens summary prints.
+returns-in-Err-tell_dumps-clause-ended g c = λ unread door files rows start held taken failed found text starts opens summary prints.
     let spec = c.args.warming.now.spec.now in
     let store = c.args.first.store in
     let shards = c.args.first.shards.items in
@@ -87,6 +89,8 @@ returns-in-Err-tell_dumps-clause-ended g c = λ unread door rows start held take
       after = after;
       door_before = door;
       door_after = door;
+      files_before = files;
+      files_after = files;
       left = nothing_left;
       earlier = left_by store shards ∷ [];
       ends = [];
@@ -113,7 +117,7 @@ returns-in-Err-tell_dumps-clause-ended g c = λ unread door rows start held take
     ended.told (ended.since start starts) (subst (λ (all : List ℕ). IsLinesPart (stop_status c.in-Err-tell_dumps.stop) all cut.0) lines cut.1) cut.2)))
 
 pub returns-in-Ok-made_anew-clause-ended : goal.returns-in-Ok-made_anew-clause-ended
-returns-in-Ok-made_anew-clause-ended g c = λ unread door rows start held taken failed found text starts opens summary prints.
+returns-in-Ok-made_anew-clause-ended g c = λ unread door files rows start held taken failed found text starts opens summary prints.
     let spec = c.args.warming.now.spec.now in
     let store = c.args.first.store in
     let shards = c.args.first.shards.items in
@@ -126,7 +130,7 @@ returns-in-Ok-made_anew-clause-ended g c = λ unread door rows start held taken 
     let lines : dump_lines (map (λ dumped. dumped.dump) c.in-Ok.dumps.items) ≡ dump_lines (dumps_in (left_in half.earlier.items)) =
     ap (λ (dumps : List Dump). dump_lines dumps) (dumps_are_in spec store shards c.in-Ok.dumps.items c.requires.run.all
     (rw (c.log.ensures.items, c.as_slice.ensures.value) at c.in-Ok.ensures) ∙ ap (λ (l : Left). dumps_in l) (sym made.left)) in
-    c.load_second.ensures.ended unread door rows start held taken failed store.ledger.opening text starts made.half
+    c.load_second.ensures.ended unread door files rows start held taken failed store.ledger.opening text starts made.half
     (subst (λ (r : Option Tables). IsFirst spec held r (map phase_left half.earlier.items) (left_in half.earlier.items) store.ledger.opening text) (sym made.keeper.0)
     (subst (λ (l : Left). IsFirst spec held store.known_rows (map phase_left half.earlier.items) l store.ledger.opening text) (sym made.left)
     (subst (λ (all : List Left). IsFirst spec held store.known_rows all left store.ledger.opening text) (sym only) first)))
@@ -134,7 +138,7 @@ returns-in-Ok-made_anew-clause-ended g c = λ unread door rows start held taken 
     (rw c.as_slice-2.ensures.value at c.in-Ok-tell_dumps.ensures.all taken text prints))
 
 pub returns-in-Err-made_anew-clause-ended : goal.returns-in-Err-made_anew-clause-ended
-returns-in-Err-made_anew-clause-ended g c = λ unread door rows start held taken failed found text starts opens summary prints.
+returns-in-Err-made_anew-clause-ended g c = λ unread door files rows start held taken failed found text starts opens summary prints.
     let spec = c.args.warming.now.spec.now in
     let store = c.args.first.store in
     let shards = c.args.first.shards.items in
@@ -148,6 +152,8 @@ returns-in-Err-made_anew-clause-ended g c = λ unread door rows start held taken
       after = after;
       door_before = door;
       door_after = door;
+      files_before = files;
+      files_after = files;
       left = nothing_left;
       earlier = left_by store shards ∷ [];
       ends = [];

@@ -61,7 +61,7 @@ run_second-requires-clause-named g c κs within = record {
 }
 
 pub returns-in_default-clause-ended : goal.returns-in_default-clause-ended
-returns-in_default-clause-ended g c = λ unread door rows start held taken failed opening text starts half first prints.
+returns-in_default-clause-ended g c = λ unread door files rows start held taken failed opening text starts half first prints.
     let given = c.args.half in
     let left = left_in given.earlier.items in
     let spec = c.args.warming.now.spec.now in
@@ -73,6 +73,8 @@ returns-in_default-clause-ended g c = λ unread door rows start held taken faile
       after = after;
       door_before = door;
       door_after = door;
+      files_before = files;
+      files_after = files;
       left = nothing_left;
       earlier = map phase_left given.earlier.items;
       ends = [];
@@ -94,7 +96,7 @@ returns-in_default-clause-ended g c = λ unread door rows start held taken faile
     (c.ended_half.ensures.since start starts) (inl refl) prints)))
 
 pub returns-in-Err-clause-ended : goal.returns-in-Err-clause-ended
-returns-in-Err-clause-ended g c = λ unread door rows start held taken failed opening text starts half first prints.
+returns-in-Err-clause-ended g c = λ unread door files rows start held taken failed opening text starts half first prints.
     let given = c.args.half in
     let left = left_in given.earlier.items in
     let spec = c.args.warming.now.spec.now in
@@ -109,6 +111,8 @@ returns-in-Err-clause-ended g c = λ unread door rows start held taken failed op
       after = after;
       door_before = door;
       door_after = door;
+      files_before = files;
+      files_after = files;
       left = nothing_left;
       earlier = map phase_left given.earlier.items;
       ends = [];
@@ -131,13 +135,13 @@ returns-in-Err-clause-ended g c = λ unread door rows start held taken failed op
     (c.ended_half-in-Err.ensures.since start starts) (inl refl) prints)))
 
 pub returns-in-Ok-loaded-clause-ended : goal.returns-in-Ok-loaded-clause-ended
-returns-in-Ok-loaded-clause-ended g c = λ unread door rows start held taken failed opening text starts half first prints.
+returns-in-Ok-loaded-clause-ended g c = λ unread door files rows start held taken failed opening text starts half first prints.
     let given = c.args.half in
     let left = left_in given.earlier.items in
     let spec = c.args.warming.now.spec.now in
     let store = c.loaded.new.store in
     let keeps = c.loaded.ensures.keeps_on in
-    c.run_second.ensures.ended unread door rows start held taken failed spec opening text starts (sym c.next_load-spec.ensures)
+    c.run_second.ensures.ended unread door files rows start held taken failed spec opening text starts (sym c.next_load-spec.ensures)
     (half_still opening given.store store given.earlier.items given.spent keeps half)
     (subst (λ (r : Option Tables). IsFirst spec held r (map phase_left given.earlier.items) left opening text) (sym keeps.told_is) first) prints
 

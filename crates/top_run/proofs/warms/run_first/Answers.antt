@@ -112,7 +112,7 @@ ended_first-requires-clause-rooms g c =
     }
 
 pub returns-in-Ok-clause-ended : goal.returns-in-Ok-clause-ended
-returns-in-Ok-clause-ended g c = λ unread door rows held opens.
+returns-in-Ok-clause-ended g c = λ unread door files rows held opens.
     let store = c.run_plans-store.result.store in
     let shards = c.run_plans-store.result.shards.items in
     let spec = c.args.warming.now.spec.now in
@@ -123,11 +123,11 @@ returns-in-Ok-clause-ended g c = λ unread door rows held opens.
     subst (λ (r : Option Tables). IsSome r) c.requires.named.told_is (named.known_before some) in
     let opened = subst (λ (opening : Tables). IsOpened held (work_shape spec) opening store.known_rows) (c.requires.named.opening_is ∙ sym named.opening_is)
     (opened_since held (work_shape spec) c.args.store.ledger.opening c.args.store.known_rows store.known_rows before_now opens) in
-    c.dump_first.ensures.ended unread door rows c.args.store.faults held (g.W.Sink.taken c.args.sink.now) (g.W.Sink.faults c.args.sink.now) _ summed.text
+    c.dump_first.ensures.ended unread door files rows c.args.store.faults held (g.W.Sink.taken c.args.sink.now) (g.W.Sink.faults c.args.sink.now) _ summed.text
     c.requires.named.start_is opened summed.is_summary summed.prints
 
 pub returns-clause-ended : goal.returns-clause-ended
-returns-clause-ended g c = λ unread door rows held opens.
+returns-clause-ended g c = λ unread door files rows held opens.
     let store = c.run_plans-store.result.store in
     let shards = c.run_plans-store.result.shards.items in
     let spec = c.args.warming.now.spec.now in
@@ -154,6 +154,8 @@ returns-clause-ended g c = λ unread door rows held opens.
       after = after;
       door_before = door;
       door_after = door;
+      files_before = files;
+      files_after = files;
       left = nothing_left;
       earlier = left_by store shards ∷ [];
       ends = [];

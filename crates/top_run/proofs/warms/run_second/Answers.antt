@@ -84,7 +84,7 @@ summed_up-made-requires-clause-numbered g c =
     rw c.as_slice-2.ensures.value (numbered_of g.H.HubName.terms shards c.run_plans-store.ensures.all (omega (arith, many, c.requires.work.few_shards)))
 
 pub returns-clause-ended : goal.returns-clause-ended
-returns-clause-ended g c = λ unread door rows start held taken failed spec opening text starts next half first prints.
+returns-clause-ended g c = λ unread door files rows start held taken failed spec opening text starts next half first prints.
     let second = c.args.warming.now.spec.now in
     let given = c.args.half.store in
     let earlier = c.args.half.earlier.items in
@@ -101,6 +101,8 @@ returns-clause-ended g c = λ unread door rows start held taken failed spec open
       after = after;
       door_before = door;
       door_after = door;
+      files_before = files;
+      files_after = files;
       left = left;
       earlier = map phase_left earlier;
       ends = [];
