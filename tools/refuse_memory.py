@@ -100,12 +100,21 @@ def run_script(refusing, script, at):
     return out, (process.returncode, err), refusing.count(path)
 
 
+def first_fault(lines):
+    """The place of the first line that tells of a fault of the store, or of the end."""
+    return next((place for place, line in enumerate(lines) if line.endswith(b" FAULT")), len(lines))
+
+
 def judge_script(whole, out, end):
-    """The name of what came of a refusal."""
+    """The name of what came of a refusal: of a call of the store too, behind which a script goes on."""
     if end == (0, b"") and out == whole:
         return UNDISTURBED
     if end in ENDS and whole.startswith(out):
         return end[1].decode().strip()
+    lines = out.split(b"\n")
+    front = first_fault(lines)
+    if end == (6, b"store fault\n") and front < len(lines) and whole.split(b"\n")[:front] == lines[:front]:
+        return "a turn says FAULT: store fault"
     raise Wrong(f"{end} with {out!r}")
 
 
