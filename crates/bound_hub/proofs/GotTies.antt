@@ -10,7 +10,7 @@ use Rattle.key_shard.specs.declared.replies.Got.TheVariants as got
 use Rattle.key_shard.specs.Past.{entry}
 use Rattle.key_shard.specs.Answers.{get_step}
 use Rattle.key_shard.specs.Replies.{ShowsGot}
-use Rattle.key_shard.specs.Shards.{ShardView, past_of, stepped, rolled}
+use Rattle.key_shard.specs.Shards.{ShardView, past_of, stepped}
 use Rattle.sql_keeper.specs.Fresh.{IsFreshStep}
 use Rattle.log_word.specs.Steps.{IsBorneOut, IsSound}
 use Rattle.log_word.specs.Views.{with_step}
@@ -22,7 +22,7 @@ use Rattle.bound_hub.specs.Facts.{HoldsFacts}
 use Rattle.bound_hub.specs.Ties.{IsBoundShard}
 use Rattle.bound_hub.specs.Gets.{got_short, IsGotHeld}
 use Rattle.bound_hub.proofs.GetLemmas.{got_is_honest, got_is_fresh, hit_leaves, get_tells, get_finds, got_borne_out, IsTheEntry}
-use Rattle.bound_hub.proofs.StepTies.{HasNoted, has_rolled, bound_with_step, entry_is_seen}
+use Rattle.bound_hub.proofs.StepTies.{HasNoted, has_stepped, bound_with_step, entry_is_seen}
 
 module _ (word : WordView) (opening : Tables) (before : ℕ → List Step) (old : ShardView) (pass : ShardPassView) (bound : IsBoundShard word opening before old pass)
     (key : QKey) (who : Sid) (floor now : ℕ) (answer : Got) (home : shard_of key old.terms.count ≡ old.terms.no) (shows : ShowsGot (get_step old.terms (past_of old) key who floor now) answer) where
@@ -36,10 +36,10 @@ module _ (word : WordView) (opening : Tables) (before : ℕ → List Step) (old 
   the_entry = get_finds old.terms (past_of old) key who floor now answer shows
 
   -- what was hit is there behind the get
-  pub hit_is_there : (new : ShardView) → new ≡ stepped (rolled old) s → (value : List ℕ) (stamp : ℕ)
+  pub hit_is_there : (new : ShardView) → new ≡ stepped old s → (value : List ℕ) (stamp : ℕ)
       → answer ≡ got.Hit value stamp → entry key (past_of new) ≡ Some (value, stamp)
   hit_is_there new made value stamp is =
-      ap (entry key) (has_rolled old new s made).past ∙ hit_leaves key (past_of old) s value stamp (subst (ShowsGot s) is shows)
+      ap (entry key) (has_stepped old new s made).past ∙ hit_leaves key (past_of old) s value stamp (subst (ShowsGot s) is shows)
       ∙ subst (IsTheEntry (entry key (past_of old))) is the_entry
 
   facts : HoldsFacts opening (before number) bound.more pass.seen key
@@ -58,7 +58,7 @@ module _ (word : WordView) (opening : Tables) (before : ℕ → List Step) (old 
       (subst (λ past. IsTheEntry (entry key past) answer) bound.goes_on the_entry)
       facts.held
 
-  module _ (sound : IsSound pass.word.shards pass.seen) (new : ShardView) (after : ShardPassView) (has : Bool) (made : new ≡ stepped (rolled old) s)
+  module _ (sound : IsSound pass.word.shards pass.seen) (new : ShardView) (after : ShardPassView) (has : Bool) (made : new ≡ stepped old s)
       (has_entry : has ≡ is_some (entry key (past_of new))) (at : after.word ≡ pass.word) (same : after.shard ≡ pass.shard)
       (seen : after.seen ≡ with_step pass.shard (got_short key who answer has) pass.seen) where
     tells : (got_short key who answer has ≡ short_of s has) × (key_of s ≡ key)
@@ -75,7 +75,7 @@ module _ (word : WordView) (opening : Tables) (before : ℕ → List Step) (old 
     pub bound_with_got : IsBoundShard word opening before new after
     bound_with_got =
         bound_with_step word opening before old pass bound sound s (got_is_honest opening (before number) bound.more pass.seen s answer shows (fresh_got tells.1))
-        new (has_rolled old new s made) (got_short key who answer has) after saw
+        new (has_stepped old new s made) (got_short key who answer has) after saw
 
     same_no : new.terms.no ≡ number
     same_no = ap (λ (v : ShardView). v.terms.no) made
@@ -89,7 +89,7 @@ module _ (word : WordView) (opening : Tables) (before : ℕ → List Step) (old 
         by : (a : Got) → ShowsGot s a → IsTheEntry (entry key (past_of old)) a → IsGotHeld opening (before new.terms.no) new.terms.no after.seen key a
         by (got.Hit value stamp) shown is =
             entry_is_seen word opening before new after bound_with_got key home_of_word value stamp
-            (ap (entry key) (has_rolled old new s made).past ∙ hit_leaves key (past_of old) s value stamp shown ∙ is)
+            (ap (entry key) (has_stepped old new s made).past ∙ hit_leaves key (past_of old) s value stamp shown ∙ is)
         by (got.Lease token) shown is = tt
         by (got.Again stands) shown is = tt
         by got.Own shown is = tt

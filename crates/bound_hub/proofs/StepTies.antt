@@ -8,7 +8,7 @@ use Rattle.key_shard.specs.declared.steps.Step.{Step}
 use Rattle.key_shard.specs.Past.{Terms, entry}
 use Rattle.key_shard.specs.Permit.{Permit}
 use Rattle.key_shard.specs.Answers.{IsLegalPast}
-use Rattle.key_shard.specs.Shards.{ShardView, past_of, is_out, rolled, stepped, returned}
+use Rattle.key_shard.specs.Shards.{ShardView, past_of, is_out, stepped, returned}
 use Rattle.sql_keeper.specs.Fresh.{IsFreshPast}
 use Rattle.shard_lock.specs.Names.{IsNamed, IsTokenOf}
 use Rattle.log_word.specs.declared.events.Short.{Short}
@@ -40,13 +40,6 @@ pub record HasStepped (old new : ShardView) (s : Step) : Type 0 where
 
 pub has_stepped : (old new : ShardView) (s : Step) → new ≡ stepped old s → HasStepped old new s
 has_stepped old new s made = record {
-  terms = ap (λ (v : ShardView). v.terms) made;
-  past = ap (λ (v : ShardView). past_of v) made ∙ reverse-append old.history (s ∷ []);
-  outs = subst (λ (v : ShardView). AreOutOr old.out v.out s) (sym made) (outs_stepped old.terms old.out s);
-}
-
-pub has_rolled : (old new : ShardView) (s : Step) → new ≡ stepped (rolled old) s → HasStepped old new s
-has_rolled old new s made = record {
   terms = ap (λ (v : ShardView). v.terms) made;
   past = ap (λ (v : ShardView). past_of v) made ∙ reverse-append old.history (s ∷ []);
   outs = subst (λ (v : ShardView). AreOutOr old.out v.out s) (sym made) (outs_stepped old.terms old.out s);

@@ -3,7 +3,7 @@ ghost use Rattle.std.specs.Prelude.{◌≡◌, true, IfOk, OnOk, OnErr, is_some}
 ghost use Rattle.key_shard.specs.Answers.{FitsShift, quarantine_step};
 ghost use Rattle.key_shard.specs.Past.{entry};
 ghost use Rattle.key_shard.specs.Replies.{ShowsQuarantine};
-ghost use Rattle.key_shard.specs.Shards.{past_of, stepped, rolled, refusal, Refuses};
+ghost use Rattle.key_shard.specs.Shards.{past_of, stepped, refusal, Refuses};
 ghost use Rattle.log_word.specs.Events.{may_write};
 ghost use Rattle.log_word.specs.Steps.{IsBeginning};
 ghost use Rattle.bound_hub.specs.Gets.{IsLastStep};
@@ -43,7 +43,7 @@ impl<H: BoundName> BoundShard<H> {
             Refuses (refusal shard key step) result }
         ensures step { let shard = self.old.shard in
             let step = quarantine_step shard.terms (past_of shard) key who mode shift now in
-            OnOk result (self.new.shard ≡ stepped (rolled shard) step) }
+            OnOk result (self.new.shard ≡ stepped shard step) }
         ensures shows { let shard = self.old.shard in
             let step = quarantine_step shard.terms (past_of shard) key who mode shift now in
             IfOk result (ShowsQuarantine shard.terms (past_of shard) step) }
@@ -82,7 +82,7 @@ impl<H: BoundName> BoundShard<H> {
             Refuses (refusal shard key step) result.0 }
         ensures step { let shard = self.old.shard in
             let step = quarantine_step shard.terms (past_of shard) key who mode shift now in
-            OnOk result.0 (self.new.shard ≡ stepped (rolled shard) step) }
+            OnOk result.0 (self.new.shard ≡ stepped shard step) }
         ensures shows { let shard = self.old.shard in
             let step = quarantine_step shard.terms (past_of shard) key who mode shift now in
             IfOk result.0 (ShowsQuarantine shard.terms (past_of shard) step) }

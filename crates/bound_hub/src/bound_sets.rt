@@ -3,7 +3,7 @@ ghost use Rattle.std.specs.Prelude.{◌≡◌, IfOk, OnOk, OnErr, is_some};
 ghost use Rattle.key_shard.specs.Answers.{set_step};
 ghost use Rattle.key_shard.specs.Past.{entry};
 ghost use Rattle.key_shard.specs.Replies.{ShowsSet};
-ghost use Rattle.key_shard.specs.Shards.{past_of, stepped, rolled, refusal, Refuses};
+ghost use Rattle.key_shard.specs.Shards.{past_of, stepped, refusal, Refuses};
 ghost use Rattle.log_word.specs.Steps.{IsBeginning};
 ghost use Rattle.bound_hub.specs.Asked.{MaySet};
 ghost use Rattle.bound_hub.specs.Gets.{IsLastStep};
@@ -40,7 +40,7 @@ impl<H: BoundName> BoundShard<H> {
             Refuses (refusal shard key step) result }
         ensures step { let shard = self.old.shard in
             let step = set_step shard.terms (past_of shard) key token value stamp now in
-            OnOk result (self.new.shard ≡ stepped (rolled shard) step) }
+            OnOk result (self.new.shard ≡ stepped shard step) }
         ensures shows { let shard = self.old.shard in
             let step = set_step shard.terms (past_of shard) key token value stamp now in
             IfOk result (ShowsSet step) }
@@ -76,7 +76,7 @@ impl<H: BoundName> BoundShard<H> {
             Refuses (refusal shard key step) result.0 }
         ensures step { let shard = self.old.shard in
             let step = set_step shard.terms (past_of shard) key token value stamp now in
-            OnOk result.0 (self.new.shard ≡ stepped (rolled shard) step) }
+            OnOk result.0 (self.new.shard ≡ stepped shard step) }
         ensures shows { let shard = self.old.shard in
             let step = set_step shard.terms (past_of shard) key token value stamp now in
             IfOk result.0 (ShowsSet step) }

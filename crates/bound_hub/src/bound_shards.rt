@@ -4,7 +4,7 @@ ghost use Rattle.lease_table.specs.Expiry.{NoneDue};
 ghost use Rattle.key_shard.specs.Answers.{IsAtHome, Legal, get_step};
 ghost use Rattle.key_shard.specs.Past.{entry, standing};
 ghost use Rattle.key_shard.specs.Replies.{ShowsGot};
-ghost use Rattle.key_shard.specs.Shards.{past_of, stepped, rolled, refusal, Refuses};
+ghost use Rattle.key_shard.specs.Shards.{past_of, stepped, refusal, Refuses};
 ghost use Rattle.log_word.specs.Views.{with_step};
 ghost use Rattle.bound_hub.specs.Gets.{got_short, IsGotFresh, IsGotHeld, IsLastStep};
 ghost use Rattle.log_word.specs.Lists.{steps_of};
@@ -111,7 +111,7 @@ impl<H: BoundName> BoundShard<H> {
             Refuses (refusal shard key step) result }
         ensures step { let shard = self.old.shard in
             let step = get_step shard.terms (past_of shard) key who floor now in
-            OnOk result (self.new.shard ≡ stepped (rolled shard) step) }
+            OnOk result (self.new.shard ≡ stepped shard step) }
         ensures shows { let shard = self.old.shard in
             let step = get_step shard.terms (past_of shard) key who floor now in
             IfOk result (ShowsGot step) }
@@ -144,7 +144,7 @@ impl<H: BoundName> BoundShard<H> {
         requires home { IsAtHome self.old.shard.terms key }
         ensures step { (now : ℕ) → let shard = self.old.shard in
             let step = get_step shard.terms (past_of shard) key who floor now in
-            IfSome result (λ got. self.new.shard ≡ stepped (rolled shard) step) }
+            IfSome result (λ got. self.new.shard ≡ stepped shard step) }
         ensures shows { (now : ℕ) → let shard = self.old.shard in
             let step = get_step shard.terms (past_of shard) key who floor now in
             IfSome result (ShowsGot step) }
@@ -168,7 +168,7 @@ impl<H: BoundName> BoundShard<H> {
         requires home { IsAtHome self.old.shard.terms key }
         ensures step { (now : ℕ) → let shard = self.old.shard in
             let step = get_step shard.terms (past_of shard) key who floor now in
-            IfSome result (λ its_got. self.new.shard ≡ stepped (rolled shard) step) }
+            IfSome result (λ its_got. self.new.shard ≡ stepped shard step) }
         ensures shows { (now : ℕ) → let shard = self.old.shard in
             let step = get_step shard.terms (past_of shard) key who floor now in
             IfSome result (λ its_got. ShowsGot step its_got.0) }
@@ -208,7 +208,7 @@ impl<H: BoundName> BoundShard<H> {
             Refuses (refusal shard key step) result }
         ensures step { let shard = self.old.shard in
             let step = get_step shard.terms (past_of shard) key who floor now in
-            OnOk result (self.new.shard ≡ stepped (rolled shard) step) }
+            OnOk result (self.new.shard ≡ stepped shard step) }
         ensures shows { let shard = self.old.shard in
             let step = get_step shard.terms (past_of shard) key who floor now in
             IfOk result (λ its_got. ShowsGot step its_got.0) }

@@ -23,7 +23,7 @@ use Rattle.key_shard.specs.Permit.{Permit}
 use Rattle.key_shard.specs.Past.{Terms, entry}
 use Rattle.key_shard.specs.Answers.{quarantine_step}
 use Rattle.key_shard.specs.Replies.{ShowsQuarantine}
-use Rattle.key_shard.specs.Shards.{ShardView, past_of, is_out, rolled, stepped}
+use Rattle.key_shard.specs.Shards.{ShardView, past_of, is_out, stepped}
 use Rattle.write_ops.specs.Releases.{LeavesValue}
 use Rattle.session_client.specs.declared.plans.Plan.{Plan}
 use Rattle.session_client.specs.declared.plans.Plan.TheVariants.{Quit}
@@ -291,7 +291,7 @@ asked-step old (step.Held on sid mode) answer shows key = refl
 asked-step old (step.Refused on sid mode holder held) answer shows key = refl
 asked-step old other answer shows key = absurd shows
 
-pub asked-same : {E : Type 0} (result : Result QAnswer E) (old new : ShardView) (s : Step) → OnOk result (new ≡ stepped (rolled old) s)
+pub asked-same : {E : Type 0} (result : Result QAnswer E) (old new : ShardView) (s : Step) → OnOk result (new ≡ stepped old s)
     → IfOk result (ShowsQuarantine old.terms (past_of old) s) → OnErr result (new ≡ old) → HasSameEntries (past_of old) (past_of new)
 asked-same (Err fault) old new s made shows same = same-shard old new same
 asked-same (Ok answer) old new s made shows same = λ key.

@@ -23,7 +23,7 @@ use Rattle.key_shard.specs.declared.replies.How.TheVariants as how
 use Rattle.key_shard.specs.Past.{Terms, draws, next_token}
 use Rattle.key_shard.specs.Answers.{get_step, set_step, quarantine_step, release_step, replace_step, raise_step, renew_step}
 use Rattle.key_shard.specs.Replies.{ShowsGot, ShowsSet, ShowsQuarantine, ShowsRelease, ShowsRaise, ShowsRenewal}
-use Rattle.key_shard.specs.Shards.{ShardView, past_of, is_out, rolled, stepped, returned, after_raise}
+use Rattle.key_shard.specs.Shards.{ShardView, past_of, is_out, stepped, returned, after_raise}
 use Rattle.session_client.specs.declared.plans.Shape.{Shape}
 use Rattle.session_client.specs.declared.replies.Fault.TheVariants as faults
 use Rattle.session_client.specs.declared.replies.Reply.{Reply}
@@ -37,7 +37,7 @@ use Rattle.core_history.specs.Events.{Event, steps_of, now_of, reply_in}
 use Rattle.core_history.specs.Machine.{World, Failed, event_of, shown_on, stepped_on, terms_of, step_reply, put_step, raise_answer, renewal_answer}
 use Rattle.core_history.specs.Machine.{raise_shown, renewal_shown}
 use Rattle.core_history.specs.Requests.{MakesStep, IsOutWhereReleased, GoesOn, tells_memory}
-use Rattle.core_history.proofs.ShardsLemmas.{IsShardOf, grown, unrolled, shards_made, shard_found, home_read}
+use Rattle.core_history.proofs.ShardsLemmas.{IsShardOf, grown, shards_made, shard_found, home_read}
 
 -- what is told is what the step shows
 tells_got : (terms : Terms) (past : List Step) (s : Step) (answer : Got) → ShowsGot s answer → Reply.Got answer ≡ step_reply terms past s
@@ -82,11 +82,6 @@ shown_is : (shape : Shape) (past : List Event) (key : QKey) (place : ℕ) (shard
 shown_is shape past key place shard g is =
     ap (λ (v : ShardView). g v.terms (past_of v)) is.same
     ∙ ap (λ (steps : List Step). g (terms_of shape (shard_of key shape.shards)) steps) (reverse-reverse (steps_of (shard_of key shape.shards) past))
-
--- a step of a shard that is whole
-stepped_whole : (shape : Shape) (past : List Event) (key : QKey) (place : ℕ) (shard new : ShardView) (s : Step) → IsShardOf shape past key place shard
-    → new ≡ stepped (rolled shard) s → new ≡ stepped shard s
-stepped_whole shape past key place shard new s is grew = grew ∙ ap (λ (v : ShardView). stepped v s) (unrolled shape past key place shard is)
 
 -- the shard of the key made the step, and told what is shown of it
 shown_made : (shape : Shape) (world : World) (who : Sid) (request : Wanted)
@@ -141,7 +136,7 @@ of_out Y true e h = h
 of_out Y false e h = absurd (false≢true e)
 
 got_became : (old new : ShardView) (s : Step) (reply : Reply) → next_token old.terms (past_of old) < 2 ^ 64 - 1 → TellsGot old s new reply
-    → Became Reply.Got (ShowsGot s) old (stepped (rolled old) s) new reply
+    → Became Reply.Got (ShowsGot s) old (stepped old s) new reply
 got_became old new s (Reply.Got got) below h = inl (got, refl, refl, h.0, h.1)
 got_became old new s (Reply.Fault faults.Memory) below h = inr (refl, h.0)
 got_became old new s (Reply.Fault faults.Spent) below h = absurd (unspent (draws s) (next_token old.terms (past_of old)) below h.1)
@@ -149,14 +144,14 @@ got_became old new s (Reply.Fault faults.Keep) below h = absurd h.1
 got_became old new s other below h = absurd h
 
 quarantine_became : (old new : ShardView) (s : Step) (reply : Reply) → next_token old.terms (past_of old) < 2 ^ 64 - 1 → TellsQuarantine old s new reply
-    → Became Reply.Quar (ShowsQuarantine old.terms (past_of old) s) old (stepped (rolled old) s) new reply
+    → Became Reply.Quar (ShowsQuarantine old.terms (past_of old) s) old (stepped old s) new reply
 quarantine_became old new s (Reply.Quar answer) below h = inl (answer, refl, refl, h.0, h.1)
 quarantine_became old new s (Reply.Fault faults.Memory) below h = inr (refl, h.0)
 quarantine_became old new s (Reply.Fault faults.Spent) below h = absurd (unspent (draws s) (next_token old.terms (past_of old)) below h.1)
 quarantine_became old new s (Reply.Fault faults.Keep) below h = absurd h.1
 quarantine_became old new s other below h = absurd h
 
-set_became : (old new : ShardView) (s : Step) (reply : Reply) → TellsSet old s new reply → Became Reply.Set (ShowsSet s) old (stepped (rolled old) s) new reply
+set_became : (old new : ShardView) (s : Step) (reply : Reply) → TellsSet old s new reply → Became Reply.Set (ShowsSet s) old (stepped old s) new reply
 set_became old new s (Reply.Set answer) h = inl (answer, refl, refl, h.0, h.1)
 set_became old new s (Reply.Fault faults.Memory) h = inr (refl, h.0)
 set_became old new s (Reply.Fault faults.Spent) h = absurd cc
@@ -255,9 +250,6 @@ request_made shape world who request now shards place shard new reply result ask
     past : List Step
     past = past_of shard
 
-    whole : (key : QKey) (s : Step) → IsShardOf shape world.past key place shard → stepped (rolled shard) s ≡ stepped shard s
-    whole key s is = stepped_whole shape world.past key place shard (stepped (rolled shard) s) s is refl
-
     home : (request : Wanted) (key : QKey) → IsAsked shards request place shard → key_of request ≡ Some key → IsShardOf shape world.past key place shard
     home request key asked e = shard_found shape world.past key shards place shard has (asked.at key e) (asked.found key e)
 
@@ -268,41 +260,41 @@ request_made shape world who request now shards place shard new reply result ask
         let is = home w key asked refl in
         let f : ℕ → Terms → List Step → Step = λ n terms steps. get_step terms steps key who floor n in
         let s = f now shard.terms past in
-        made_by Reply.Got (ShowsGot s) shape world who w shards place shard (stepped (rolled shard) s) new reply result has asked.there
-        (λ answer shows. timely shape world who w key f now shards place shard (stepped (rolled shard) s) (Reply.Got answer) time refl has is
-        (whole key s is) (tells_got shard.terms past s answer shows)) (got_became shard new s reply asked.left makes) goes
+        made_by Reply.Got (ShowsGot s) shape world who w shards place shard (stepped shard s) new reply result has asked.there
+        (λ answer shows. timely shape world who w key f now shards place shard (stepped shard s) (Reply.Got answer) time refl has is
+        refl (tells_got shard.terms past s answer shows)) (got_became shard new s reply asked.left makes) goes
     by (wanted.Set key token value stamp) asked out makes =
         let w = wanted.Set key token value stamp in
         let is = home w key asked refl in
         let f : ℕ → Terms → List Step → Step = λ n terms steps. set_step terms steps key token value stamp n in
         let s = f now shard.terms past in
-        made_by Reply.Set (ShowsSet s) shape world who w shards place shard (stepped (rolled shard) s) new reply result has asked.there
-        (λ answer shows. timely shape world who w key f now shards place shard (stepped (rolled shard) s) (Reply.Set answer) time refl has is
-        (whole key s is) (tells_set shard.terms past s answer shows)) (set_became shard new s reply makes) goes
+        made_by Reply.Set (ShowsSet s) shape world who w shards place shard (stepped shard s) new reply result has asked.there
+        (λ answer shows. timely shape world who w key f now shards place shard (stepped shard s) (Reply.Set answer) time refl has is
+        refl (tells_set shard.terms past s answer shows)) (set_became shard new s reply makes) goes
     by (wanted.QaReg key) asked out makes =
         let w = wanted.QaReg key in
         let is = home w key asked refl in
         let f : ℕ → Terms → List Step → Step = λ n terms steps. quarantine_step terms steps key who Invalidate (pos 0) n in
         let s = f now shard.terms past in
-        made_by Reply.Quar (ShowsQuarantine shard.terms past s) shape world who w shards place shard (stepped (rolled shard) s) new reply result has asked.there
-        (λ answer shows. timely shape world who w key f now shards place shard (stepped (rolled shard) s) (Reply.Quar answer) time refl has is
-        (whole key s is) (tells_quarantine shard.terms past s answer shows)) (quarantine_became shard new s reply asked.left makes) goes
+        made_by Reply.Quar (ShowsQuarantine shard.terms past s) shape world who w shards place shard (stepped shard s) new reply result has asked.there
+        (λ answer shows. timely shape world who w key f now shards place shard (stepped shard s) (Reply.Quar answer) time refl has is
+        refl (tells_quarantine shard.terms past s answer shows)) (quarantine_became shard new s reply asked.left makes) goes
     by (wanted.QaRead key) asked out makes =
         let w = wanted.QaRead key in
         let is = home w key asked refl in
         let f : ℕ → Terms → List Step → Step = λ n terms steps. quarantine_step terms steps key who Refresh (pos 0) n in
         let s = f now shard.terms past in
-        made_by Reply.Quar (ShowsQuarantine shard.terms past s) shape world who w shards place shard (stepped (rolled shard) s) new reply result has asked.there
-        (λ answer shows. timely shape world who w key f now shards place shard (stepped (rolled shard) s) (Reply.Quar answer) time refl has is
-        (whole key s is) (tells_quarantine shard.terms past s answer shows)) (quarantine_became shard new s reply asked.left makes) goes
+        made_by Reply.Quar (ShowsQuarantine shard.terms past s) shape world who w shards place shard (stepped shard s) new reply result has asked.there
+        (λ answer shows. timely shape world who w key f now shards place shard (stepped shard s) (Reply.Quar answer) time refl has is
+        refl (tells_quarantine shard.terms past s answer shows)) (quarantine_became shard new s reply asked.left makes) goes
     by (wanted.Delta key more) asked out makes =
         let w = wanted.Delta key more in
         let is = home w key asked refl in
         let f : ℕ → Terms → List Step → Step = λ n terms steps. quarantine_step terms steps key who Delta more n in
         let s = f now shard.terms past in
-        made_by Reply.Quar (ShowsQuarantine shard.terms past s) shape world who w shards place shard (stepped (rolled shard) s) new reply result has asked.there
-        (λ answer shows. timely shape world who w key f now shards place shard (stepped (rolled shard) s) (Reply.Quar answer) time refl has is
-        (whole key s is) (tells_quarantine shard.terms past s answer shows)) (quarantine_became shard new s reply asked.left makes) goes
+        made_by Reply.Quar (ShowsQuarantine shard.terms past s) shape world who w shards place shard (stepped shard s) new reply result has asked.there
+        (λ answer shows. timely shape world who w key f now shards place shard (stepped shard s) (Reply.Quar answer) time refl has is
+        refl (tells_quarantine shard.terms past s answer shows)) (quarantine_became shard new s reply asked.left makes) goes
     by (wanted.Dar grant) asked out makes =
         let w = wanted.Dar grant in
         let s = release_step past grant how.Drop in

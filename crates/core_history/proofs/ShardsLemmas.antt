@@ -17,7 +17,7 @@ use Rattle.key_shard.specs.declared.steps.Step.{Step}
 use Rattle.key_shard.specs.declared.steps.Step.TheVariants.{Released}
 use Rattle.key_shard.specs.Past.{Terms, draws, quar_of, next_token}
 use Rattle.key_shard.specs.Answers.{IsAtHome, sweep_step}
-use Rattle.key_shard.specs.Shards.{ShardView, past_of, rolled, swept}
+use Rattle.key_shard.specs.Shards.{ShardView, past_of, swept}
 use Rattle.key_shard.proofs.SweepLemmas.{sweep_by}
 use Rattle.expiry_sweeper.specs.declared.replies.SweepReply.{SweepReply}
 use Rattle.expiry_sweeper.specs.declared.replies.SweepWanted.{SweepWanted}
@@ -210,10 +210,6 @@ shard_found shape past key shards place shard has at found =
     let within = shard_below key shape.shards has.fit.some_shards in
     let there : slice_get shards (shard_of key shape.shards) ≡ Some shard = ap (λ (n : ℕ). slice_get shards (shard_of key n)) (sym has.count) ∙ found in
     record { here = here; within = within; same = some_is shard _ (sym there ∙ has.each (shard_of key shape.shards) within) }
-
--- it is whole: it gives up no step
-pub unrolled : (shape : Shape) (past : List Event) (key : QKey) (place : ℕ) (shard : ShardView) → IsShardOf shape past key place shard → rolled shard ≡ shard
-unrolled shape past key place shard is = ap rolled is.same ∙ sym is.same
 
 -- what follows the shard's own past follows the steps on it
 pub step_is : (shape : Shape) (past : List Event) (key : QKey) (place : ℕ) (shard : ShardView) (f : Terms → List Step → Step)

@@ -1,5 +1,5 @@
 -- The pairs that the cache keeps against the list that callers see.
-use Rattle.std.proofs.Common.{◌≡◌, ℕ, Bool, true, false, cond, Option, Some, None, is_some, option_map, List, [], ◌∷◌, ◌++◌, length, refl, sym, ap, ◌∙◌, rules}
+use Rattle.std.proofs.Common.{◌≡◌, ℕ, Bool, true, false, cond, Option, Some, None, is_some, option_map, List, [], ◌∷◌, ◌++◌, length, map, slice_get, refl, sym, ap, ◌∙◌, rules}
 use Rattle.std.specs.Option.{option_map_or}
 use Rattle.std.specs.Map as kept
 use Rattle.std.proofs.lemmas.List.{length-map, map-append}
@@ -8,7 +8,7 @@ use Rattle.lru.proofs.CallerLemmas.{Contains-lookup_entry}
 use Rattle.rows_model.specs.declared.keys.QKey.{QKey}
 use Rattle.rows_model.specs.Key.{same_key}
 use Rattle.rows_model.specs.contracts.keys.QKeyPartialEq.TheImpl.{eq-value}
-use Rattle.rows_model.proofs.SameKey.{same_key-true, same_key-swap}
+use Rattle.rows_model.proofs.SameKey.{same_key-true, same_key-refl, same_key-swap}
 use Rattle.entry_table.specs.declared.table.Held.{Held}
 use Rattle.entry_table.specs.Entries.{Item, Table, DistinctKeys, lookup, without, replaced, promoted}
 use Rattle.entry_table.specs.Kept.{held_item, shown_all, shown_table}
@@ -141,3 +141,21 @@ promoted-shown_all k room es h = by_entry (kept.lookup_entry (eq k) es) refl
     by_entry (Some e) at =
         ap (table_of room) (shown_all-front k e es (key-lookup_entry k es e at) h)
         ∙ sym (promoted-found k (table_of room (shown_all es)) e.1.value e.1.stamp (lookup-shown_all k es ∙ ap (option_map value_of) at))
+
+-- where the first entry is of the key, bringing it to the front changes nothing
+pub promoted-first : (k : QKey) (room : ℕ) (es : List (QKey × Held)) (q : QKey) (held : Held) → Some (q, held) ≡ slice_get es 0 → q ≡ k
+    → DistinctKeys (shown_all es) → promoted k (table_of room (shown_all es)) ≡ table_of room (shown_all es)
+unfolding shown_all
+promoted-first k room [] q held at same h = absurd cc
+promoted-first k room (e ∷ es) q held at same h =
+    let is : (q, held) ≡ e = cc in
+    let key : e.0 ≡ k = sym (ap (λ (p : QKey × Held). p.0) is) ∙ same in
+    let there : lookup k (held_item e ∷ map held_item es) ≡ Some (e.1.value, e.1.stamp) =
+    lookup-cons k (held_item e) (map held_item es) ∙ ap (λ b. cond b (Some (e.1.value, e.1.stamp)) (lookup k (map held_item es)))
+        (ap (λ (x : QKey). same_key x k) key ∙ same_key-refl k) in
+    let rest : without k (held_item e ∷ map held_item es) ≡ map held_item es =
+    without-cons k (held_item e) (map held_item es)
+        ∙ ap (λ b. cond b (without k (map held_item es)) (held_item e ∷ without k (map held_item es))) (ap (λ (x : QKey). same_key x k) key ∙ same_key-refl k)
+        ∙ without-absent k (map held_item es) (ap (λ (x : QKey). lookup x (map held_item es)) (sym key) ∙ h.0) in
+    promoted-found k (table_of room (held_item e ∷ map held_item es)) e.1.value e.1.stamp there
+    ∙ ap (table_of room) (ap (λ (x : QKey). (x, e.1.value, e.1.stamp) ∷ without k (held_item e ∷ map held_item es)) (sym key) ∙ ap (λ l. held_item e ∷ l) rest)

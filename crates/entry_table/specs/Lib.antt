@@ -1,4 +1,3 @@
 pub mod Entries
 pub mod Kept
-pub mod Lends
 pub use Rattle.rows_model.specs.Key

@@ -1,6 +1,5 @@
 ghost use Rattle.std.specs.Prelude.{◌≡◌, ◌≤◌, ◌↔◌, ◌∷◌, ◌++◌, [], length, IsTrue, IfOk, IfErr, OnErr, IsSome, IsNone, IsOk, option_map};
 ghost use Rattle.std.specs.Option.{option_to_list};
-ghost use Rattle.std.specs.Borrow.{sem};
 ghost use Rattle.entry_table.specs.Kept.{dropped_for};
 
 use lru::LruCache;
@@ -48,7 +47,6 @@ fn dropped_for(key: &QKey, pushed: Option<(QKey, Held)>) -> Option<(QKey, Value,
 
 impl Entries {
     ghost use Rattle.entry_table.specs.Entries.{Table, IsSound, lookup, without, replaced, promoted};
-    ghost use Rattle.entry_table.specs.Lends.{EndsAs};
 
     /// An empty table with room for that many entries. It takes memory for none of them yet.
     pub fn new(alloc: Global, room: u32) -> Result<Entries, Memory>
@@ -70,15 +68,25 @@ impl Entries {
         Some((&held.value, held.stamp))
     }
 
-    /// The value and the stamp of the key's entry, which comes to the front. Where the key has none,
-    /// nothing changes. It takes no memory.
-    pub fn find(&mut self, key: &QKey) -> Option<(&Value, u64)>
-        ensures* promotes { sem 𝓛 (EndsAs self.entry (promoted key.now self.old)) }
-        ensures value { option_map (λ found. (found.0.now, found.1)) result ≡ lookup key.now self.old.list }
-        ensures sound { IsSound self.old }
+    /// Brings the key's entry to the front. Where the key has none, nothing changes. It takes no memory.
+    pub fn promote(&mut self, key: &QKey)
+        ensures promotes { self.new ≡ promoted key.now self.old }
+        ensures sound { IsSound self.new }
     {
-        let held = self.cache.get(key)?;
-        Some((&held.value, held.stamp))
+        if !self.is_first(key) {
+            self.cache.promote(key);
+        }
+    }
+
+    // Whether the first entry is the key's, which then needs no look by its hash.
+    fn is_first(&self, key: &QKey) -> bool
+        ensures in_front { IsTrue result → promoted key.now self.now ≡ self.now }
+        ensures sound { IsSound self.now }
+    {
+        match self.cache.peek_mru() {
+            Some((first, _)) => first == key,
+            None => false,
+        }
     }
 
     /// A copy of the list of entries, each as key, value and stamp, most recent first. It takes

@@ -9,7 +9,7 @@ use Rattle.key_shard.specs.Answers.{IsAtHome}
 use Rattle.key_shard.specs.Past.{next_token}
 use Rattle.key_shard.specs.Permit.{Permit}
 use Rattle.key_shard.specs.Replies.{ShowsQuarantine, ShowsRaise}
-use Rattle.key_shard.specs.Shards.{ShardView, past_of, is_out, rolled, stepped, refusal, Refuses}
+use Rattle.key_shard.specs.Shards.{ShardView, past_of, is_out, stepped, refusal, Refuses}
 use Rattle.key_shard.specs.declared.replies.QAnswer.{QAnswer}
 use Rattle.key_shard.specs.declared.replies.Raising.{Raising}
 use Rattle.key_shard.specs.declared.replies.Raising.TheVariants as raisings
@@ -29,7 +29,7 @@ unspent false spent next other answer at refuses = absurd (false≢true at)
 
 -- an answer to a quarantine of a key of the shard itself is told, and a token was left
 pub tells_quarantine : (old new : ShardView) (key : QKey) (step : Step) (answer : QAnswer) → IsAtHome old.terms key
-    → Refuses (refusal old key step) (Ok answer) → new ≡ stepped (rolled old) step → ShowsQuarantine old.terms (past_of old) step answer
+    → Refuses (refusal old key step) (Ok answer) → new ≡ stepped old step → ShowsQuarantine old.terms (past_of old) step answer
     → TellsQuarantine old step new (Reply.Quar answer)
 tells_quarantine old new key step answer home refuses is shows = (
   is,

@@ -6,7 +6,7 @@ use Rattle.key_shard.specs.Answers.{IsAtHome, get_step, set_step, raise_step, re
 use Rattle.key_shard.specs.Past.{Terms, draws, next_token}
 use Rattle.key_shard.specs.Permit.{Permit}
 use Rattle.key_shard.specs.Replies.{ShowsGot, ShowsSet, ShowsQuarantine, ShowsRelease, ShowsRaise, ShowsRenewal}
-use Rattle.key_shard.specs.Shards.{ShardView, past_of, is_out, rolled, stepped, returned, after_raise}
+use Rattle.key_shard.specs.Shards.{ShardView, past_of, is_out, stepped, returned, after_raise}
 use Rattle.key_shard.specs.declared.replies.Raising.{Raising}
 use Rattle.key_shard.specs.declared.replies.Raising.TheVariants as raisings
 use Rattle.key_shard.specs.declared.replies.Renewal.{Renewal}
@@ -58,20 +58,20 @@ fault_of (causes.Stranger shard) = faults.Memory
 -- A get was answered as its step shows, and the shard stands after that step, its steps in memory given up first where that was
 -- due; or it was not made, and the shard is as before.
 abbrev pub TellsGot : ShardView → Step → ShardView → Reply → Type 0
-TellsGot old step new (Reply.Got got) = (new ≡ stepped (rolled old) step) × ShowsGot step got × IsFalse (is_spent old step)
+TellsGot old step new (Reply.Got got) = (new ≡ stepped old step) × ShowsGot step got × IsFalse (is_spent old step)
 TellsGot old step new (Reply.Fault fault) = (new ≡ old) × IsFaultOf old step fault
 TellsGot old step new other = ⊥
 
 -- So was a quarantine.
 abbrev pub TellsQuarantine : ShardView → Step → ShardView → Reply → Type 0
 TellsQuarantine old step new (Reply.Quar answer) =
-    (new ≡ stepped (rolled old) step) × ShowsQuarantine old.terms (past_of old) step answer × IsFalse (is_spent old step)
+    (new ≡ stepped old step) × ShowsQuarantine old.terms (past_of old) step answer × IsFalse (is_spent old step)
 TellsQuarantine old step new (Reply.Fault fault) = (new ≡ old) × IsFaultOf old step fault
 TellsQuarantine old step new other = ⊥
 
 -- So was a set, which draws no token: it is not made for want of memory alone.
 abbrev pub TellsSet : ShardView → Step → ShardView → Reply → Type 0
-TellsSet old step new (Reply.Set answer) = (new ≡ stepped (rolled old) step) × ShowsSet step answer
+TellsSet old step new (Reply.Set answer) = (new ≡ stepped old step) × ShowsSet step answer
 TellsSet old step new (Reply.Fault fault) = (new ≡ old) × (fault ≡ faults.Memory)
 TellsSet old step new other = ⊥
 

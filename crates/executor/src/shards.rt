@@ -3,7 +3,7 @@ ghost use Rattle.std.specs.Prelude.{ℕ, ◌≡◌, ◌≢◌, Some, None, IsTru
 ghost use Rattle.rows_model.specs.Delta.{is_count};
 ghost use Rattle.key_shard.specs.Answers.{IsAtHome, get_step, set_step, raise_step, renew_step};
 ghost use Rattle.key_shard.specs.Replies.{ShowsQuarantine};
-ghost use Rattle.key_shard.specs.Shards.{past_of, rolled, stepped, refusal, Refuses};
+ghost use Rattle.key_shard.specs.Shards.{past_of, stepped, refusal, Refuses};
 ghost use Rattle.session_client.specs.Belongs.{Belongs};
 ghost use Rattle.session_client.specs.Desks.{IsProper};
 ghost use Rattle.session_client.specs.declared.replies.Reply.TheVariants as Reply;
@@ -134,7 +134,7 @@ fn delta_on(
     requires { IsTrue (is_count key) }
     ensures refusal { Refuses (refusal shard.old key (delta_step shard.old key who by now)) result }
     ensures step { OnOk result (shard.new
-        ≡ stepped (rolled shard.old) (delta_step shard.old key who by now)) }
+        ≡ stepped shard.old (delta_step shard.old key who by now)) }
     ensures shows { IfOk result (ShowsQuarantine shard.old.terms (past_of shard.old)
         (delta_step shard.old key who by now)) }
     ensures err { OnErr result (shard.new ≡ shard.old) }

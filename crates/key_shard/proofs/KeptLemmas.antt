@@ -18,8 +18,7 @@ use Rattle.key_shard.specs.declared.bodies.Body.{Body}
 use Rattle.key_shard.specs.declared.outs.Out.{Out}
 use Rattle.key_shard.specs.declared.steps.Step.{Step}
 use Rattle.key_shard.specs.declared.steps.Step.TheVariants.{Granted}
-use Rattle.key_shard.specs.Histories.{gone_after}
-use Rattle.key_shard.specs.Shards.{ShardView, rolled, stepped, out_after}
+use Rattle.key_shard.specs.Shards.{ShardView, stepped, out_after}
 use Rattle.key_shard.specs.Past.{Terms, standing, quar_of, draws, next_token}
 use Rattle.key_shard.specs.Permit.{Permit}
 use Rattle.key_shard.specs.Answers.{IsAtHome, IsOf}
@@ -77,12 +76,11 @@ held-granted past outs out shift now deadline held key token quar e =
 
 -- what callers see behind a step
 pub view-after : (old new : ShardView) (step : Step) → new.terms ≡ old.terms → new.history ≡ old.history ++ step ∷ [] → new.out ≡ old.out
-    → new.gone ≡ gone_after old.terms.keep old.gone old.history → out_after old.terms step old.out ≡ old.out → new ≡ stepped (rolled old) step
-view-after old new step terms history out gone quiet =
-    let made : Terms → List Step → List Permit → ℕ → ShardView = λ t h o g. record { terms = t; history = h; out = o; gone = g } in
-    ap (λ t. made t new.history new.out new.gone) terms ∙ ap (λ h. made old.terms h new.out new.gone) history
-    ∙ ap (λ o. made old.terms (old.history ++ step ∷ []) o new.gone) (out ∙ sym quiet)
-    ∙ ap (made old.terms (old.history ++ step ∷ []) (out_after old.terms step old.out)) gone
+    → out_after old.terms step old.out ≡ old.out → new ≡ stepped old step
+view-after old new step terms history out quiet =
+    let made : Terms → List Step → List Permit → ShardView = λ t h o. record { terms = t; history = h; out = o } in
+    ap (λ t. made t new.history new.out) terms ∙ ap (λ h. made old.terms h new.out) history
+    ∙ ap (made old.terms (old.history ++ step ∷ [])) (out ∙ sym quiet)
 
 -- what a shard keeps after a step
 pub IsKept-after : (old new : Body) (step : Step) → new.history.steps ≡ old.history.steps ++ step ∷ [] → terms_of new ≡ terms_of old
@@ -159,12 +157,15 @@ IsOut-granted terms past out shift now deadline home next below = record {
     the_one : (quar : Quar) → Some new ≡ Some quar → IsOf (permit_of terms.no out) quar
     the_one quar e = let same : new ≡ quar = cc in subst (IsOf (permit_of terms.no out)) same (record { sid = refl; mode = refl })
 
--- the terms, of a body with another table of as much room
-abbrev terms_with : Body → ℕ → Terms
-terms_with body room = record { no = body.no; count = body.count; room = room; life = body.life; first = body.first; keep = body.keep }
+-- the terms, of a body with another table of as much room and a history that rolls as it did
+abbrev terms_with : Body → ℕ → Bool → Terms
+terms_with body room rolls = record { no = body.no; count = body.count; room = room; life = body.life; first = body.first; rolls = rolls }
 
-pub terms-kept : (body : Body) (room : ℕ) → room ≡ body.entries.room → terms_with body room ≡ terms_of body
-terms-kept body room e = ap (terms_with body) e
+pub terms-kept : (body : Body) (room : ℕ) (rolls : Bool) → room ≡ body.entries.room → rolls ≡ body.history.rolls → terms_with body room rolls ≡ terms_of body
+terms-kept body room rolls e same = ap (λ r. terms_with body r rolls) e ∙ ap (terms_with body body.entries.room) same
+
+pub terms-rolled : (body : Body) {rolls : Bool} → rolls ≡ body.history.rolls → terms_with body body.entries.room rolls ≡ terms_of body
+terms-rolled body same = ap (terms_with body body.entries.room) same
 
 -- what a new shard keeps
 pub IsKept-new : (body : Body) → body.no < body.count → 1 ≤ body.entries.room → body.entries.list ≡ []

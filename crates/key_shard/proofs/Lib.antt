@@ -1,8 +1,7 @@
-pub mod BaseLemmas
-pub mod BaseLaws
 pub mod CaseLemmas
 pub mod DueLemmas
 pub mod EndLemmas
+pub mod GrantLemmas
 pub mod KeptLemmas
 pub mod LegalLemmas
 pub mod LookLemmas

@@ -176,17 +176,16 @@ IsKept-returned old new step grant n may none gone kept out less pushed same tie
     (subst (AreHeld (step ∷ steps_of old)) (sym less) held) (subst (λ os. places_of (step ∷ steps_of old) os ≤ new.promised) (sym less) fits) reserved
 
 -- what callers see behind it
-pub view-returned : (old : Body) (terms : Terms) (history : List Step) (outs : List Out) (gone : ℕ) (step : Step) (grant : Permit) → terms ≡ terms_of old
+pub view-returned : (old : Body) (terms : Terms) (history : List Step) (outs : List Out) (step : Step) (grant : Permit) → terms ≡ terms_of old
     → history ≡ old.history.steps ++ step ∷ [] → outs ≡ filter (λ out. not (same_permit grant (permit_of old.no out))) old.out
-    → gone ≡ old.history.gone → record { terms = terms; history = history; out = map (permit_of old.no) outs; gone = gone } ≡ returned (shown old) grant step
-view-returned old terms history outs gone step grant same pushed less stays =
-    let made : Terms → List Step → List Permit → ℕ → ShardView = λ t h o g. record { terms = t; history = h; out = o; gone = g } in
+    → record { terms = terms; history = history; out = map (permit_of old.no) outs } ≡ returned (shown old) grant step
+view-returned old terms history outs step grant same pushed less =
+    let made : Terms → List Step → List Permit → ShardView = λ t h o. record { terms = t; history = h; out = o } in
     let out : map (permit_of old.no) outs ≡ without_permit grant (map (permit_of old.no) old.out) =
     ap (map (permit_of old.no)) less ∙ map-filter (λ g. not (same_permit grant g)) (permit_of old.no) old.out in
-    ap (made terms history (map (permit_of old.no) outs)) stays
-    ∙ ap (λ t. made t history (map (permit_of old.no) outs) old.history.gone) same
-    ∙ ap (λ h. made (terms_of old) h (map (permit_of old.no) outs) old.history.gone) pushed
-    ∙ ap (λ o. made (terms_of old) (old.history.steps ++ step ∷ []) o old.history.gone) out
+    ap (λ t. made t history (map (permit_of old.no) outs)) same
+    ∙ ap (λ h. made (terms_of old) h (map (permit_of old.no) outs)) pushed
+    ∙ ap (made (terms_of old) (old.history.steps ++ step ∷ [])) out
 
 -- the quarantine of a token, as the table of leases tells it
 pub stands-found : {terms : Terms} {past : List Step} {list : List Item} {table : List Lease} {next : ℕ} → Ties terms past list table next

@@ -28,7 +28,7 @@ use Rattle.key_shard.specs.Answers.{Answers, IsOf, OwesRaise, OwesRenew, Raise, 
 use Rattle.key_shard.specs.LegalStands.{StandsWell}
 use Rattle.key_shard.specs.Kept.{Ties, IsKept, IsOut, AreHeld, is_for, permit_of, places_for, places_of, raised_out, shown, steps_of, terms_of}
 use Rattle.key_shard.specs.Shards.{ShardView, is_out, raised_permit, stepped}
-use Rattle.key_shard.proofs.BaseLaws.{granted-same}
+use Rattle.key_shard.proofs.GrantLemmas.{granted-same}
 use Rattle.key_shard.proofs.DueLemmas.{found-there, same-due}
 use Rattle.key_shard.proofs.LegalLemmas.{distinct, found_own, found-passes, token_stands}
 use Rattle.key_shard.proofs.OutLemmas.{any-map, out-granted, out-stands}
@@ -203,14 +203,14 @@ permits-raised number key token (out ∷ outs) =
     let rest = permits-raised number key token outs in
     λ i. here i ∷ rest i
 
-pub view-raised : (old : Body) (history : List Step) (outs : List Out) (gone : ℕ) (key : QKey) (sid : Sid) (token : ℕ)
-    → history ≡ old.history.steps ++ Raised key sid token ∷ [] → outs ≡ map (raised_out key token) old.out → gone ≡ old.history.gone
-    → record { terms = terms_of old; history = history; out = map (permit_of old.no) outs; gone = gone } ≡ stepped (shown old) (Raised key sid token)
-view-raised old history outs gone key sid token pushed less stays =
-    let made : List Step → List Permit → ℕ → ShardView = λ h o g. record { terms = terms_of old; history = h; out = o; gone = g } in
-    ap (λ h. made h (map (permit_of old.no) outs) gone) pushed
-    ∙ ap (λ o. made (old.history.steps ++ Raised key sid token ∷ []) o gone) (ap (map (permit_of old.no)) less ∙ permits-raised old.no key token old.out)
-    ∙ ap (made (old.history.steps ++ Raised key sid token ∷ []) (map (raised_permit key token) (map (permit_of old.no) old.out))) stays
+pub view-raised : (old : Body) (terms : Terms) (history : List Step) (outs : List Out) (key : QKey) (sid : Sid) (token : ℕ) → terms ≡ terms_of old
+    → history ≡ old.history.steps ++ Raised key sid token ∷ [] → outs ≡ map (raised_out key token) old.out
+    → record { terms = terms; history = history; out = map (permit_of old.no) outs } ≡ stepped (shown old) (Raised key sid token)
+view-raised old terms history outs key sid token same pushed less =
+    let made : Terms → List Step → List Permit → ShardView = λ t h o. record { terms = t; history = h; out = o } in
+    ap (λ t. made t history (map (permit_of old.no) outs)) same
+    ∙ ap (λ h. made (terms_of old) h (map (permit_of old.no) outs)) pushed
+    ∙ ap (made (terms_of old) (old.history.steps ++ Raised key sid token ∷ [])) (ap (map (permit_of old.no)) less ∙ permits-raised old.no key token old.out)
 
 -- ---- what a raise and a renewal owe of a grant that is out
 

@@ -28,7 +28,7 @@ use Rattle.key_shard.specs.Shards.{ShardView}
 
 -- what a shard is made with
 abbrev pub terms_of : Body → Terms
-terms_of body = record { no = body.no; count = body.count; room = body.entries.room; life = body.life; first = body.first; keep = body.keep }
+terms_of body = record { no = body.no; count = body.count; room = body.entries.room; life = body.life; first = body.first; rolls = body.history.rolls }
 
 -- its steps, the latest first
 abbrev pub steps_of : Body → List Step
@@ -44,7 +44,6 @@ shown body = record {
   terms = terms_of body;
   history = body.history.steps;
   out = map (permit_of body.no) body.out;
-  gone = body.history.gone;
 }
 
 -- entries, leases and the next token are those of a past, and that past is legal

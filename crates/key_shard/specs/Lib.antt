@@ -16,5 +16,3 @@ pub mod Sights
 pub mod Shards
 pub mod Replies
 pub mod Kept
-pub mod Base
-pub mod Seen

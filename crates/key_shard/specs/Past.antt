@@ -15,15 +15,15 @@ use Rattle.key_shard.specs.declared.steps.Ended.TheVariants.{Keep, Drop, Put, Sh
 use Rattle.key_shard.specs.declared.steps.Step.{Step}
 use Rattle.key_shard.specs.declared.steps.Step.TheVariants.{Hit, Lease, Again, Stored, Granted, Released, Raised, Renewed}
 
--- What a shard is made with: its number of so many, how many entries it has room for, how long a lease lives, its first token, and the
--- number of steps in memory at which it rolls, if it does.
+-- What a shard is made with: its number of so many, how many entries it has room for, how long a lease lives, its first token, and
+-- whether it gives up each step as it comes.
 pub record Terms : Type 0 where
   pub no : ℕ
   pub count : ℕ
   pub room : ℕ
   pub life : ℕ
   pub first : ℕ
-  pub keep : Option ℕ
+  pub rolls : Bool
 
 -- The quarantines that stand on a key, in order of token: those granted, less those released since. One that was raised is to refresh, and
 -- one that was renewed has its new deadline.

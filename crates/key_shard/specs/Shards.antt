@@ -11,15 +11,12 @@ use Rattle.key_shard.specs.declared.steps.Step.TheVariants.{Granted, Raised, Gon
 use Rattle.key_shard.specs.declared.replies.ShardFault.{ShardFault}
 use Rattle.key_shard.specs.declared.replies.ShardFault.TheVariants as faults
 use Rattle.key_shard.specs.Past.{Terms, draws, next_token}
-use Rattle.key_shard.specs.Histories.{gone_after}
 
--- a shard: what it is made with, its history, the earliest step first, the grants that are out, and how many of its
--- steps were given up
+-- a shard: what it is made with, its history, the earliest step first, and the grants that are out
 pub record ShardView : Type 0 where
   pub terms : Terms
   pub history : List Step
   pub out : List Permit
-  pub gone : ℕ
 
 -- its past: its steps, the latest first
 abbrev pub past_of : ShardView → List Step
@@ -27,16 +24,7 @@ past_of shard = reverse shard.history
 
 -- its steps in memory, the earliest first
 abbrev pub kept_of : ShardView → List Step
-kept_of shard = drop shard.gone shard.history
-
--- the shard once its steps in memory are given up, where that is due
-abbrev pub rolled : ShardView → ShardView
-rolled shard = record {
-  terms = shard.terms;
-  history = shard.history;
-  out = shard.out;
-  gone = gone_after shard.terms.keep shard.gone shard.history;
-}
+kept_of shard = if shard.terms.rolls then [] else shard.history
 
 -- whether a grant is out
 abbrev pub is_out : ShardView → Permit → Bool
@@ -66,7 +54,6 @@ stepped shard step = record {
   terms = shard.terms;
   history = shard.history ++ step ∷ [];
   out = out_after shard.terms step shard.out;
-  gone = shard.gone;
 }
 
 -- the shard after the step that ends a grant
@@ -75,7 +62,6 @@ returned shard permit step = record {
   terms = shard.terms;
   history = shard.history ++ step ∷ [];
   out = without_permit permit shard.out;
-  gone = shard.gone;
 }
 
 -- the shard after a raise: where the quarantine was gone its grant is spent
@@ -104,9 +90,3 @@ Refuses None (Ok answer) = Unit {0}
 Refuses None (Err faults.Memory) = Unit {0}
 Refuses None (Err (faults.Stranger shard)) = ⊥
 Refuses None (Err (faults.Spent next)) = ⊥
-
--- Where a shard rolls at this number of steps in memory, it has no more of them behind a call that may give them up.
-abbrev pub RollsShort : Type 0
-RollsShort =
-    (shard : ShardView) (step : Step) (keep : ℕ) → shard.terms.keep ≡ Some keep → 1 ≤ keep
-    → shard.gone ≤ length shard.history → length (kept_of (stepped (rolled shard) step)) ≤ keep

@@ -3,7 +3,7 @@ ghost use Rattle.rows_model.specs.Placement.{shard_of};
 ghost use Rattle.key_shard.specs.Answers.{Answers};
 ghost use Rattle.key_shard.specs.Kept.{IsKept, IsQuiet, shown, steps_of, terms_of};
 ghost use Rattle.key_shard.specs.Past.{deadline_at};
-ghost use Rattle.key_shard.specs.Shards.{rolled, stepped};
+ghost use Rattle.key_shard.specs.Shards.{stepped};
 
 use crate::histories::History;
 use crate::outs::Outs;
@@ -21,8 +21,6 @@ pub struct Body {
     /// How long a lease lives, in ticks of the clock that is handed in.
     pub life: u64,
     pub first: u64,
-    /// The number of steps in memory at which it rolls, if it does.
-    pub keep: Option<u32>,
     /// The next token.
     pub next: u64,
     pub entries: Entries,
@@ -62,11 +60,11 @@ impl Body {
         requires quiet { IsQuiet step }
         requires answers { Answers (terms_of self.old) (steps_of self.old) step }
         ensures kept { IsKept self.new }
-        ensures ok { OnOk result (shown self.new ≡ stepped (rolled (shown self.old)) step) }
+        ensures ok { OnOk result (shown self.new ≡ stepped (shown self.old) step) }
         ensures err { OnErr result (shown self.new ≡ shown self.old) }
     {
         self.history.make_room(self.promised, 1)?;
-        self.history.push(self.keep, step);
+        self.history.push(step);
         Ok(())
     }
 }

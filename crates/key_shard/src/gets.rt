@@ -4,7 +4,7 @@ ghost use Rattle.key_shard.specs.Answers.{Answers, IsAtHome, get_step};
 ghost use Rattle.key_shard.specs.Kept.{IsKept, shown, steps_of, terms_of};
 ghost use Rattle.key_shard.specs.Past.{deadline_at, entry, next_token, seen_by};
 ghost use Rattle.key_shard.specs.Replies.{ShowsGot};
-ghost use Rattle.key_shard.specs.Shards.{Refuses, refusal, spent_at, rolled, stepped};
+ghost use Rattle.key_shard.specs.Shards.{Refuses, refusal, spent_at, stepped};
 ghost use Rattle.case_tables.specs.declared.grids.Verdict.TheVariants as verdicts;
 
 use crate::bodies::Body;
@@ -24,7 +24,7 @@ impl Body {
             Refuses (refusal (shown self.old) key step) result }
         ensures step { let step = get_step (terms_of self.old)
             (steps_of self.old) key who floor now in
-            OnOk result (shown self.new ≡ stepped (rolled (shown self.old)) step) }
+            OnOk result (shown self.new ≡ stepped (shown self.old) step) }
         ensures shows { let step = get_step (terms_of self.old)
             (steps_of self.old) key who floor now in IfOk result (ShowsGot step) }
         ensures err { OnErr result (shown self.new ≡ shown self.old) }
@@ -34,9 +34,8 @@ impl Body {
             Look::Own => Ok(self.own(key, who)?),
             Look::Found => {
                 let (value, stamp) = found.unwrap();
-                let copy = value.copy()?;
                 let value = value.copy()?;
-                Ok(self.hit(key, who, floor, value, stamp, copy)?)
+                Ok(self.hit(key, who, floor, value, stamp)?)
             }
             Look::Waits(standing) => Ok(self.again(key, who, floor, now, standing)?),
             Look::Free => self.lease(key, who, floor, now),
@@ -51,7 +50,7 @@ impl Body {
         ensures kept { IsKept self.new }
         ensures step { (now : ℕ) → let step = get_step (terms_of self.old)
             (steps_of self.old) key who floor now in IfOk result (λ hit. IfSome hit
-            (λ got. shown self.new ≡ stepped (rolled (shown self.old)) step)) }
+            (λ got. shown self.new ≡ stepped (shown self.old) step)) }
         ensures shows { (now : ℕ) → let step = get_step (terms_of self.old)
             (steps_of self.old) key who floor now in
             IfOk result (λ hit. IfSome hit (ShowsGot step)) }
@@ -62,9 +61,8 @@ impl Body {
         match self.look(&key, who, floor, 0, found) {
             Look::Found => {
                 let (value, stamp) = found.unwrap();
-                let copy = value.copy()?;
                 let value = value.copy()?;
-                Ok(Some(self.hit(key, who, floor, value, stamp, copy)?))
+                Ok(Some(self.hit(key, who, floor, value, stamp)?))
             }
             Look::Own | Look::Waits(_) | Look::Free => Ok(None),
         }
@@ -75,7 +73,7 @@ impl Body {
         requires kept { IsKept self.old }
         requires answers { Answers (terms_of self.old) (steps_of self.old) (Step.Own key who) }
         ensures kept { IsKept self.new }
-        ensures step { OnOk result (shown self.new ≡ stepped (rolled (shown self.old)) (Step.Own key who)) }
+        ensures step { OnOk result (shown self.new ≡ stepped (shown self.old) (Step.Own key who)) }
         ensures shows { IfOk result (λ got. got ≡ Got.Own) }
         ensures err { OnErr result (shown self.new ≡ shown self.old) }
     {
@@ -91,35 +89,21 @@ impl Body {
         floor: u64,
         value: Value,
         stamp: u64,
-        answer: Value,
     ) -> Result<Got, Memory>
         requires kept { IsKept self.old }
         requires found { entry key (steps_of self.old) ≡ Some (value, stamp) }
         requires answers { Answers (terms_of self.old) (steps_of self.old)
             (Step.Hit key who floor value stamp) }
-        requires told { answer ≡ value }
         ensures kept { IsKept self.new }
-        ensures step { OnOk result (shown self.new ≡ stepped (rolled (shown self.old))
+        ensures step { OnOk result (shown self.new ≡ stepped (shown self.old)
             (Step.Hit key who floor value stamp)) }
         ensures shows { IfOk result (λ got. got ≡ Got.Hit value stamp) }
         ensures err { OnErr result (shown self.new ≡ shown self.old) }
     {
         self.history.make_room(self.promised, 1)?;
-        let _ = self.entries.find(&key);
-        self.history.push(
-            self.keep,
-            Step::Hit {
-                key,
-                sid: who,
-                floor,
-                value,
-                stamp,
-            },
-        );
-        Ok(Got::Hit {
-            value: answer,
-            stamp,
-        })
+        let value = self.history.push_hit(key, who, floor, value, stamp)?;
+        self.entries.promote(&key);
+        Ok(Got::Hit { value, stamp })
     }
 
     /// Answers that a lease stands in the way, and drops the entry of the key.
@@ -135,23 +119,20 @@ impl Body {
         requires answers { Answers (terms_of self.old) (steps_of self.old)
             (Step.Again key who floor now standing) }
         ensures kept { IsKept self.new }
-        ensures step { OnOk result (shown self.new ≡ stepped (rolled (shown self.old))
+        ensures step { OnOk result (shown self.new ≡ stepped (shown self.old)
             (Step.Again key who floor now standing)) }
         ensures shows { IfOk result (λ got. got ≡ Got.Again standing) }
         ensures err { OnErr result (shown self.new ≡ shown self.old) }
     {
         self.history.make_room(self.promised, 1)?;
         let _ = self.entries.drop_key(&key);
-        self.history.push(
-            self.keep,
-            Step::Again {
-                key,
-                sid: who,
-                floor,
-                now,
-                standing,
-            },
-        );
+        self.history.push(Step::Again {
+            key,
+            sid: who,
+            floor,
+            now,
+            standing,
+        });
         Ok(Got::Again { standing })
     }
 
@@ -166,7 +147,7 @@ impl Body {
         ensures refusal { Refuses (spent_at (next_token (terms_of self.old) (steps_of self.old))
             (Step.Lease key who floor now (next_token (terms_of self.old) (steps_of self.old))
             (deadline_at (terms_of self.old) now))) result }
-        ensures step { OnOk result (shown self.new ≡ stepped (rolled (shown self.old))
+        ensures step { OnOk result (shown self.new ≡ stepped (shown self.old)
             (Step.Lease key who floor now (next_token (terms_of self.old) (steps_of self.old))
             (deadline_at (terms_of self.old) now))) }
         ensures shows { IfOk result (λ got. got ≡ Got.Lease
@@ -182,17 +163,14 @@ impl Body {
         let _ = self.leases.ask_i(key, who, token, deadline, now)?;
         let _ = self.entries.drop_key(&key);
         self.next = token + 1;
-        self.history.push(
-            self.keep,
-            Step::Lease {
-                key,
-                sid: who,
-                floor,
-                now,
-                token,
-                deadline,
-            },
-        );
+        self.history.push(Step::Lease {
+            key,
+            sid: who,
+            floor,
+            now,
+            token,
+            deadline,
+        });
         Ok(Got::Lease { token })
     }
 }

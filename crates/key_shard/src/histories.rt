@@ -1,131 +1,163 @@
-ghost use Rattle.std.specs.Prelude.{◌≡◌, ◌<◌, ◌≤◌, ◌+◌, ◌∷◌, ◌++◌, [], ◌^◌, OnOk, drop, length};
-ghost use Rattle.key_shard.specs.Histories.{gone_after, is_due};
+ghost use Rattle.std.specs.Prelude.{◌≡◌, ◌<◌, ◌≤◌, ◌+◌, ◌∷◌, ◌++◌, [], ◌^◌, if◌then◌else◌, IfOk, OnOk, OnErr};
+ghost use Rattle.key_shard.specs.declared.steps.Step.TheVariants as step;
+ghost use Rattle.key_shard.specs.Histories.{kept_in, value_hit};
 
 use crate::steps::Step;
 use http_server::Log;
-use rows_model::Memory;
+use rows_model::{Memory, QKey, Sid, Value};
 use std::alloc::Global;
 use std::marker::Model;
 
-/// The steps of a shard. One that rolls gives up its early steps: they take no memory from then on,
-/// and contracts see them all the same.
+/// The steps of a shard, in memory or not.
+#[derive(Drop)]
+enum Steps {
+    /// All of them are in memory.
+    Whole(Vec<Step>),
+    /// Each was given up as it came. A log has no bytes: contracts alone see what is in it.
+    GivenUp(Log<Step, ()>),
+}
+
+/// The steps of a shard. One that rolls gives up each step as it comes: its steps take no memory, and
+/// contracts see them all the same.
 #[derive(Drop)]
 pub struct History {
-    /// What was given up. A log has no bytes: contracts alone see what is in it.
-    gone: Log<Vec<Step>, ()>,
-    steps: Vec<Step>,
+    alloc: Global,
+    steps: Steps,
 }
 
 impl Model for History {
-    ghost use Rattle.std.specs.Prelude.{◌++◌, length, flat_map, vec_len, vec_capacity};
-    ghost use Rattle.key_shard.specs.Histories.{HistoryView};
+    ghost use Rattle.key_shard.specs.Histories.{HistoryView, history_of};
 
     ghost Value = { HistoryView };
 
-    ghost view = { λ h. record {
-      steps = flat_map (λ old. old.0.items) h.gone.items ++ h.steps.items;
-      gone = length (flat_map (λ old. old.0.items) h.gone.items);
-      used = vec_len h.steps;
-      room = vec_capacity h.steps;
-    } };
+    ghost view = { λ h. history_of h.steps };
+}
+
+/// The value that a step hit, if it is a hit.
+fn value_hit(step: Step) -> Option<Value>
+    ensures { result ≡ value_hit step }
+{
+    match step {
+        Step::Hit { value, .. } => Some(value),
+        _other => None,
+    }
 }
 
 impl History {
     /// No steps.
-    pub fn new(alloc: Global) -> History
+    pub fn new(alloc: Global, rolls: bool) -> History
+        ensures rolls { result.rolls ≡ rolls }
         ensures steps { result.steps ≡ [] }
-        ensures gone { result.gone ≡ 0 }
         ensures used { result.used ≡ 0 }
     {
-        History {
-            gone: Log::new(),
-            steps: Vec::new(alloc),
-        }
+        let steps = if rolls {
+            Steps::GivenUp(Log::new())
+        } else {
+            Steps::Whole(Vec::new(alloc))
+        };
+        History { alloc, steps }
     }
 
     /// What its memory is from.
     pub fn allocator(&self) -> Global {
-        *self.steps.allocator()
+        self.alloc
     }
 
-    /// Whether there are as many steps in memory as a shard keeps, so that the next call may roll.
-    pub fn is_due(&self, keep: Option<u32>) -> bool
-        ensures { result ≡ is_due keep self.now.gone self.now.steps }
-    {
-        match keep {
-            Some(keep) => keep as usize <= self.steps.len(),
-            None => false,
-        }
-    }
-
-    /// How many steps are in memory.
-    pub fn used(&self) -> usize
-        ensures { result + self.now.gone ≡ length self.now.steps }
-    {
-        self.steps.len()
-    }
-
-    /// Keeps so many places free, beside those that are promised.
+    /// Keeps so many places free, beside those that are promised. One that rolls has a place for each step.
     pub fn make_room(&mut self, promised: usize, places: usize) -> Result<(), Memory>
         requires few { places ≤ 3 }
         requires kept { self.old.used + promised ≤ self.old.room }
+        ensures rolls { self.new.rolls ≡ self.old.rolls }
         ensures items { self.new.steps ≡ self.old.steps }
-        ensures gone { self.new.gone ≡ self.old.gone }
         ensures kept { self.new.used + promised ≤ self.new.room }
         ensures ok { OnOk result (self.new.used + promised + places ≤ self.new.room) }
         ensures fits { self.new.room < 2 ^ 64 }
     {
-        self.steps.reserve(promised + places)?;
+        match &mut self.steps {
+            Steps::Whole(steps) => steps.reserve(promised + places)?,
+            Steps::GivenUp(_) => {
+                let _ = promised.checked_add(places).ok_or(Memory)?;
+            }
+        }
         Ok(())
     }
 
-    /// Adds a step in a free place. The steps in memory are given up first, if the shard keeps no more.
-    pub fn push(&mut self, keep: Option<u32>, step: Step)
+    /// Adds a step in a free place.
+    pub fn push(&mut self, step: Step)
         requires { self.old.used < self.old.room }
+        ensures rolls { self.new.rolls ≡ self.old.rolls }
         ensures items { self.new.steps ≡ self.old.steps ++ step ∷ [] }
-        ensures gone { self.new.gone ≡ gone_after keep self.old.gone self.old.steps }
         ensures len { self.new.used ≤ self.old.used + 1 }
         ensures capacity { self.new.room ≡ self.old.room }
     {
-        if self.is_due(keep) {
-            self.give_up();
+        match &mut self.steps {
+            Steps::Whole(steps) => steps.push_reserved(step),
+            Steps::GivenUp(log) => *log = log.and(&step, &()),
         }
-        self.push_reserved(step);
     }
 
-    /// Gives up the steps in memory.
-    fn give_up(&mut self)
-        ensures items { self.new.steps ≡ self.old.steps }
-        ensures gone { self.new.gone ≡ length self.old.steps }
-        ensures len { self.new.used ≡ 0 }
-        ensures capacity { self.new.room ≡ self.old.room }
-    {
-        self.gone = self.gone.and(&self.steps, &());
-        self.steps.clear();
-    }
-
-    /// Adds a step in a free place, and gives up none.
-    pub fn push_reserved(&mut self, step: Step)
+    /// Adds the step of a hit in a free place, and hands its value back. A step in memory has a copy of the
+    /// value: where that is refused, nothing changes.
+    pub fn push_hit(
+        &mut self,
+        key: QKey,
+        sid: Sid,
+        floor: u64,
+        value: Value,
+        stamp: u64,
+    ) -> Result<Value, Memory>
         requires { self.old.used < self.old.room }
-        ensures items { self.new.steps ≡ self.old.steps ++ step ∷ [] }
-        ensures gone { self.new.gone ≡ self.old.gone }
-        ensures len { self.new.used ≡ self.old.used + 1 }
+        ensures rolls { self.new.rolls ≡ self.old.rolls }
+        ensures items { OnOk result
+            (self.new.steps ≡ self.old.steps ++ step.Hit key sid floor value stamp ∷ []) }
+        ensures value { IfOk result (λ back. back ≡ value) }
+        ensures len { OnOk result (self.new.used ≤ self.old.used + 1) }
         ensures capacity { self.new.room ≡ self.old.room }
+        ensures err { OnErr result (self.new ≡ self.old) }
     {
-        self.steps.push_reserved(step);
+        match &mut self.steps {
+            Steps::Whole(steps) => {
+                let copy = value.copy()?;
+                steps.push_reserved(Step::Hit {
+                    key,
+                    sid,
+                    floor,
+                    value: copy,
+                    stamp,
+                });
+                Ok(value)
+            }
+            Steps::GivenUp(log) => {
+                let hit = Step::Hit {
+                    key,
+                    sid,
+                    floor,
+                    value,
+                    stamp,
+                };
+                *log = log.and(&hit, &());
+                Ok(value_hit(hit).unwrap())
+            }
+        }
     }
 
     /// The steps in memory, the earliest first.
     pub fn as_slice(&self) -> &[Step]
-        ensures { result.now ≡ drop self.now.gone self.now.steps }
+        ensures { result.now ≡ kept_in self.now }
     {
-        self.steps.as_slice()
+        match &self.steps {
+            Steps::Whole(steps) => steps.as_slice(),
+            Steps::GivenUp(_) => &[],
+        }
     }
 
     /// The steps in memory, the earliest first.
     pub fn into_steps(self) -> Vec<Step>
-        ensures { result.items ≡ drop self.gone self.steps }
+        ensures { result.items ≡ kept_in self }
     {
-        self.steps
+        match self.steps {
+            Steps::Whole(steps) => steps,
+            Steps::GivenUp(_) => Vec::new(self.alloc),
+        }
     }
 }

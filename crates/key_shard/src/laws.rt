@@ -1,6 +1,5 @@
 // Laws of histories, each the clause of a function that does nothing.
 ghost use Rattle.key_shard.specs.Modes.{AnswersEndByMode, LegalEndsByMode};
-ghost use Rattle.key_shard.specs.Shards.{RollsShort};
 
 /// A quarantine ends as its mode has it: each one that ended stood then, and was its session's; where it
 /// ended with a new value it was to refresh, and where it ended with a shift it was to shift, by that
@@ -8,10 +7,4 @@ ghost use Rattle.key_shard.specs.Shards.{RollsShort};
 pub fn quarantines_end_by_mode()
     ensures answers { AnswersEndByMode }
     ensures legal { LegalEndsByMode }
-{}
-
-/// A shard that rolls has at most as many steps in memory as it was made to keep, behind each call that
-/// may give them up.
-pub fn rolling_shards_keep_few_steps()
-    ensures { RollsShort }
 {}

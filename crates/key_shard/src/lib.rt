@@ -1,13 +1,11 @@
 //! One shard of the cache: entries and leases under one `&mut self`, and the history of its steps.
 #![tactic(auto)]
 
-pub use bases::Base;
 pub use grants::Grant;
 pub use replies::{Back, Got, How, QAnswer, Raising, Rel, Renewal, SetAnswer, ShardFault};
 pub use shards::Shard;
 pub use steps::{Blocker, Ended, Step};
 
-pub mod bases;
 mod bodies;
 mod gets;
 pub mod grants;

@@ -8,7 +8,7 @@ ghost use Rattle.key_shard.specs.Kept.{IsKept, shown, steps_of, terms_of};
 ghost use Rattle.key_shard.specs.Outs.{out_as};
 ghost use Rattle.key_shard.specs.Past.{deadline_at, entry, holder_of, next_token, seen_by};
 ghost use Rattle.key_shard.specs.Replies.{ShowsQuarantine, old_value};
-ghost use Rattle.key_shard.specs.Shards.{Refuses, refusal, spent_at, rolled, stepped};
+ghost use Rattle.key_shard.specs.Shards.{Refuses, refusal, spent_at, stepped};
 
 use crate::bodies::Body;
 use crate::grants::Grant;
@@ -37,7 +37,7 @@ impl Body {
             Refuses (refusal (shown self.old) key step) result }
         ensures step { let step = quarantine_step (terms_of self.old)
             (steps_of self.old) key sid mode shift now in
-            OnOk result (shown self.new ≡ stepped (rolled (shown self.old)) step) }
+            OnOk result (shown self.new ≡ stepped (shown self.old) step) }
         ensures shows { let step = quarantine_step (terms_of self.old)
             (steps_of self.old) key sid mode shift now in
             IfOk result (ShowsQuarantine (terms_of self.old) (steps_of self.old) step) }
@@ -60,7 +60,7 @@ impl Body {
         requires answers { Answers (terms_of self.old) (steps_of self.old)
             (Step.Held key sid mode) }
         ensures kept { IsKept self.new }
-        ensures step { OnOk result (shown self.new ≡ stepped (rolled (shown self.old))
+        ensures step { OnOk result (shown self.new ≡ stepped (shown self.old)
             (Step.Held key sid mode)) }
         ensures shows { IfOk result (λ answer. answer ≡ QAnswer.Held) }
         ensures err { OnErr result (shown self.new ≡ shown self.old) }
@@ -76,7 +76,7 @@ impl Body {
         requires answers { Answers (terms_of self.old) (steps_of self.old)
             (refused_step key sid mode (holder_of key sid (steps_of self.old))) }
         ensures kept { IsKept self.new }
-        ensures step { OnOk result (shown self.new ≡ stepped (rolled (shown self.old))
+        ensures step { OnOk result (shown self.new ≡ stepped (shown self.old)
             (refused_step key sid mode (holder_of key sid (steps_of self.old)))) }
         ensures shows { IfOk result (ShowsQuarantine (terms_of self.old) (steps_of self.old)
             (refused_step key sid mode (holder_of key sid (steps_of self.old)))) }
@@ -129,7 +129,7 @@ impl Body {
         ensures refusal { Refuses (spent_at (next_token (terms_of self.old) (steps_of self.old))
             (Step.Granted key sid mode shift now (next_token (terms_of self.old)
             (steps_of self.old)) (deadline_at (terms_of self.old) now))) result }
-        ensures step { OnOk result (shown self.new ≡ stepped (rolled (shown self.old))
+        ensures step { OnOk result (shown self.new ≡ stepped (shown self.old)
             (Step.Granted key sid mode shift now (next_token (terms_of self.old)
             (steps_of self.old)) (deadline_at (terms_of self.old) now))) }
         ensures shows { IfOk result (ShowsQuarantine (terms_of self.old) (steps_of self.old)
@@ -158,18 +158,15 @@ impl Body {
         };
         self.next = token + 1;
         self.promised += 2;
-        self.history.push(
-            self.keep,
-            Step::Granted {
-                key,
-                sid,
-                mode,
-                shift,
-                now,
-                token,
-                deadline,
-            },
-        );
+        self.history.push(Step::Granted {
+            key,
+            sid,
+            mode,
+            shift,
+            now,
+            token,
+            deadline,
+        });
         Ok(QAnswer::Granted { grant, old })
     }
 }

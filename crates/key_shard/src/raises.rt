@@ -75,7 +75,7 @@ impl Body {
         };
         let _ = self.leases.raise(&key, sid, token);
         self.out.raise(self.no, &grant);
-        self.history.push_reserved(Step::Raised { key, sid, token });
+        self.history.push(Step::Raised { key, sid, token });
         let grant = grant.raised();
         Ok(Raising::Raised { grant, old })
     }
@@ -106,24 +106,10 @@ impl Body {
             token,
             holder,
         };
-        match self.note_also(step) {
+        match self.note(step) {
             Ok(()) => Ok(Raising::Shared { grant, holder }),
             Err(_) => Err(grant),
         }
-    }
-
-    /// Writes down a step that changes nothing else, and gives up none.
-    fn note_also(&mut self, step: Step) -> Result<(), Memory>
-        requires kept { IsKept self.old }
-        requires quiet { IsQuiet step }
-        requires answers { Answers (terms_of self.old) (steps_of self.old) step }
-        ensures kept { IsKept self.new }
-        ensures ok { OnOk result (shown self.new ≡ stepped (shown self.old) step) }
-        ensures err { OnErr result (shown self.new ≡ shown self.old) }
-    {
-        self.history.make_room(self.promised, 1)?;
-        self.history.push_reserved(step);
-        Ok(())
     }
 
     /// Renews the quarantine of a grant, as a shard does.
@@ -160,7 +146,7 @@ impl Body {
         ensures gone { IfOk result (λ known. known ≡ Renewal.Gone) }
         ensures err { OnErr result (shown self.new ≡ shown self.old) }
     {
-        self.note_also(Step::Gone {
+        self.note(Step::Gone {
             key: grant.key(),
             sid: grant.sid(),
             token: grant.token(),
@@ -188,7 +174,7 @@ impl Body {
         let (key, sid, token) = (grant.key(), grant.sid(), grant.token());
         let deadline = self.deadline(now);
         let _ = self.leases.renew(&key, token, deadline);
-        self.history.push_reserved(Step::Renewed {
+        self.history.push(Step::Renewed {
             key,
             sid,
             token,

@@ -1,5 +1,4 @@
 // Laws of a shard's past, each the clause of a function that does nothing.
-ghost use Rattle.key_shard.specs.Base.{BaseLaw, BaseLawBack};
 ghost use Rattle.key_shard.specs.LegalStands.{LegalStandsWell};
 ghost use Rattle.key_shard.specs.OneStep.{ReadersByOneStep};
 ghost use Rattle.key_shard.specs.Sights.{StepBySight};
@@ -20,11 +19,4 @@ pub fn readers_by_one_step()
 /// and on the next token, and on nothing else of the past.
 pub fn steps_rest_on_one_key()
     ensures { StepBySight }
-{}
-
-/// So a past may be given up for a base that tells these: what is legal behind it is judged from the
-/// base, and what is legal from the base is legal behind the past.
-pub fn bases_stand_for_pasts()
-    ensures forth { BaseLaw }
-    ensures back { BaseLawBack }
 {}

@@ -94,7 +94,7 @@ impl Body {
     {
         self.out.take(self.no, &grant);
         self.promised -= 1;
-        self.history.push_reserved(Step::Gone {
+        self.history.push(Step::Gone {
             key: grant.key(),
             sid: grant.sid(),
             token: grant.token(),
@@ -122,7 +122,7 @@ impl Body {
         self.promised -= 2;
         let _ = self.leases.end_q(&key, token);
         let how = end_entry(&mut self.entries, &key, how, quar, grant.spend());
-        self.history.push_reserved(Step::Released {
+        self.history.push(Step::Released {
             key,
             sid: quar.sid,
             token,
@@ -183,7 +183,7 @@ impl Body {
         self.promised -= 2;
         let _ = self.leases.end_q(&key, token);
         let _ = grant.spend();
-        self.history.push_reserved(Step::Released {
+        self.history.push(Step::Released {
             key,
             sid: quar.sid,
             token,

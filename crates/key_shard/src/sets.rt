@@ -5,7 +5,7 @@ ghost use Rattle.key_shard.specs.Answers.{Answers, set_step};
 ghost use Rattle.key_shard.specs.Kept.{IsKept, Puts, shown, steps_of, terms_of};
 ghost use Rattle.key_shard.specs.Past.{evicts, recorded};
 ghost use Rattle.key_shard.specs.Replies.{ShowsSet};
-ghost use Rattle.key_shard.specs.Shards.{Refuses, refusal, rolled, stepped};
+ghost use Rattle.key_shard.specs.Shards.{Refuses, refusal, stepped};
 
 use crate::bodies::Body;
 use crate::replies::{SetAnswer, ShardFault};
@@ -49,7 +49,7 @@ impl Body {
             Refuses (refusal (shown self.old) key step) result }
         ensures step { let step = set_step (terms_of self.old)
             (steps_of self.old) key token value stamp now in
-            OnOk result (shown self.new ≡ stepped (rolled (shown self.old)) step) }
+            OnOk result (shown self.new ≡ stepped (shown self.old) step) }
         ensures shows { let step = set_step (terms_of self.old)
             (steps_of self.old) key token value stamp now in IfOk result (ShowsSet step) }
         ensures err { OnErr result (shown self.new ≡ shown self.old) }
@@ -78,7 +78,7 @@ impl Body {
             (Step.Stored key token now value stamp (evicts (terms_of self.old) key
             (steps_of self.old))) }
         ensures kept { IsKept self.new }
-        ensures step { OnOk result (shown self.new ≡ stepped (rolled (shown self.old))
+        ensures step { OnOk result (shown self.new ≡ stepped (shown self.old)
             (Step.Stored key token now value stamp (evicts (terms_of self.old) key
             (steps_of self.old)))) }
         ensures shows { IfOk result (λ answer. answer ≡ SetAnswer.Stored
@@ -91,17 +91,14 @@ impl Body {
             return Err(Memory);
         };
         let _ = self.leases.take_i(&key, token, now);
-        self.history.push(
-            self.keep,
-            Step::Stored {
-                key,
-                token,
-                now,
-                value,
-                stamp,
-                evicted,
-            },
-        );
+        self.history.push(Step::Stored {
+            key,
+            token,
+            now,
+            value,
+            stamp,
+            evicted,
+        });
         Ok(SetAnswer::Stored { evicted })
     }
 }

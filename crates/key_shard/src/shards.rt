@@ -1,4 +1,4 @@
-ghost use Rattle.std.specs.Prelude.{◌≡◌, ◌≢◌, ◌↔◌, ◌≤◌, ◌<◌, ◌∷◌, ◌++◌, [], IfOk, OnOk, OnErr, IfErr, IfSome, IfNone, IsTrue, Some, None, option_map, is_some, min, length, ◌^◌, ◌-◌, ℕ};
+ghost use Rattle.std.specs.Prelude.{◌≡◌, ◌≢◌, true, false, ◌↔◌, ◌≤◌, ◌<◌, ◌∷◌, ◌++◌, [], IfOk, OnOk, OnErr, IfErr, IfSome, IfNone, IsTrue, Some, None, option_map, is_some, min, length, ◌^◌, ◌-◌, ℕ};
 ghost use Rattle.std.specs.Bool.{IsFalse};
 ghost use Rattle.lease_table.specs.Expiry.{NoneDue, NoneDueBefore, StandsDue};
 ghost use Rattle.key_shard.specs.Dues.{first_due};
@@ -6,11 +6,8 @@ ghost use Rattle.key_shard.specs.Answers.{get_step, set_step, quarantine_step, r
 ghost use Rattle.entry_table.specs.Entries.{keys, lookup};
 ghost use Rattle.key_shard.specs.Past.{entry, order, quar_of, standing};
 ghost use Rattle.key_shard.specs.Replies.{ShowsGot, ShowsSet, ShowsQuarantine, ShowsRaise, ShowsRelease, ShowsRenewal, sweep_answer};
-ghost use Rattle.key_shard.specs.Base.{IsBase, IsRolled, LegalFrom};
-ghost use Rattle.key_shard.specs.Histories.{is_due};
-ghost use Rattle.key_shard.specs.Shards.{kept_of, past_of, is_out, after_raise, stepped, rolled, returned, swept, refusal, Refuses};
+ghost use Rattle.key_shard.specs.Shards.{kept_of, past_of, is_out, after_raise, stepped, returned, swept, refusal, Refuses};
 
-use crate::bases::Base;
 use crate::bodies::Body;
 use crate::grants::Grant;
 use crate::histories::History;
@@ -26,14 +23,12 @@ use std::marker::Model;
 /// One shard of the cache. Contracts see what it is made with, its history, and its grants that are
 /// out.
 ///
-/// A whole shard has all steps of its history in memory. One that rolls gives up those that it has
-/// each time that they are so many, and contracts see them all the same: what it answers rests on its
-/// whole history, as if all of it was there.
+/// A whole shard has all steps of its history in memory. One that rolls gives up each step as it comes,
+/// and contracts see them all the same: what it answers rests on its whole history, as if all of it was
+/// there.
 #[derive(Drop)]
 pub struct Shard {
     body: Body,
-    /// What was there before the first step in memory.
-    base: Base,
 }
 
 impl Model for Shard {
@@ -41,12 +36,11 @@ impl Model for Shard {
 
     ghost Value = { ShardView };
 
-    ghost use Rattle.key_shard.specs.Base.{IsRolled};
     ghost use Rattle.key_shard.specs.Kept.{IsKept, shown};
 
     ghost view = { λ shard. shown shard.body };
 
-    ghost invariant = { λ shard. IsKept shard.body × IsRolled (shown shard.body) shard.base };
+    ghost invariant = { λ shard. IsKept shard.body };
 }
 
 impl Shard {
@@ -71,18 +65,16 @@ impl Shard {
             room = room;
             life = life;
             first = first;
-            keep = None;
+            rolls = false;
           };
           history = [];
           out = [];
-          gone = 0;
         }) }
     {
-        Shard::with(alloc, no, count, room, life, first, None)
+        Shard::with(alloc, no, count, room, life, first, false)
     }
 
-    /// A shard that rolls: as `new`, but a `get`, a `set` or a `quarantine` that isn't refused, and that
-    /// finds at least `keep` steps in memory, gives these up.
+    /// A shard that rolls: as `new`, but each step is given up as it comes, and takes no memory.
     pub fn rolling(
         alloc: Global,
         no: u32,
@@ -90,13 +82,11 @@ impl Shard {
         room: u32,
         life: u64,
         first: u64,
-        keep: u32,
     ) -> Result<Shard, Memory>
         requires one_of { no < count }
         requires roomy { 1 ≤ room }
         requires lively { 1 ≤ life }
         requires tokens { 1 ≤ first }
-        requires keeps { 1 ≤ keep }
         ensures { IfOk result (λ shard. shard ≡ record {
           terms = record {
             no = no;
@@ -104,14 +94,13 @@ impl Shard {
             room = room;
             life = life;
             first = first;
-            keep = Some keep;
+            rolls = true;
           };
           history = [];
           out = [];
-          gone = 0;
         }) }
     {
-        Shard::with(alloc, no, count, room, life, first, Some(keep))
+        Shard::with(alloc, no, count, room, life, first, true)
     }
 
     /// An empty shard.
@@ -122,7 +111,7 @@ impl Shard {
         room: u32,
         life: u64,
         first: u64,
-        keep: Option<u32>,
+        rolls: bool,
     ) -> Result<Shard, Memory>
         requires one_of { no < count }
         requires roomy { 1 ≤ room }
@@ -133,48 +122,27 @@ impl Shard {
             room = room;
             life = life;
             first = first;
-            keep = keep;
+            rolls = rolls;
           };
           history = [];
           out = [];
-          gone = 0;
         }) }
     {
         let (entries, leases) = (Entries::new(alloc, room)?, Leases::new(alloc));
         Ok(Shard {
-            base: Base::of(0, first, &entries, &leases),
             body: Body {
                 no,
                 count,
                 life,
                 first,
-                keep,
                 next: first,
                 entries,
                 leases,
                 out: Outs::new(alloc),
                 promised: 0,
-                history: History::new(alloc),
+                history: History::new(alloc, rolls),
             },
         })
-    }
-
-    /// The base that the next step makes, where it makes the steps in memory be given up.
-    fn next_base(&self) -> Option<Base>
-        ensures due { is_some result ≡ is_due self.now.terms.keep self.now.gone self.now.history }
-        ensures base { IfSome result (λ base. IsBase self.now.terms (past_of self.now) base) }
-        ensures counted { IfSome result (λ base. base.dropped
-            ≡ min (length self.now.history) (2 ^ 64 - 1)) }
-    {
-        let body = &self.body;
-        if !body.history.is_due(body.keep) {
-            return None;
-        }
-        let dropped = self
-            .base
-            .dropped()
-            .saturating_add(body.history.used() as u64);
-        Some(Base::of(dropped, body.next, &body.entries, &body.leases))
     }
 
     /// Gets a key for a session. The answer is Own exactly where the session has quarantined the key.
@@ -189,7 +157,7 @@ impl Shard {
         ensures refusal { let step = get_step self.old.terms (past_of self.old) key who floor now in
             Refuses (refusal self.old key step) result }
         ensures step { let step = get_step self.old.terms (past_of self.old) key who floor now in
-            OnOk result (self.new ≡ stepped (rolled self.old) step) }
+            OnOk result (self.new ≡ stepped self.old step) }
         ensures shows { let step = get_step self.old.terms (past_of self.old) key who floor now in
             IfOk result (ShowsGot step) }
         ensures err { OnErr result (self.new ≡ self.old) }
@@ -211,17 +179,12 @@ impl Shard {
         ensures refusal { let step = get_step self.old.terms (past_of self.old) key who floor now in
             Refuses (refusal self.old key step) result }
         ensures step { let step = get_step self.old.terms (past_of self.old) key who floor now in
-            OnOk result (self.new ≡ stepped (rolled self.old) step) }
+            OnOk result (self.new ≡ stepped self.old step) }
         ensures shows { let step = get_step self.old.terms (past_of self.old) key who floor now in
             IfOk result (ShowsGot step) }
         ensures err { OnErr result (self.new ≡ self.old) }
     {
-        let base = self.next_base();
-        let got = self.body.get(key, who, floor, now)?;
-        if let Some(base) = base {
-            self.base = base;
-        }
-        Ok(got)
+        self.body.get(key, who, floor, now)
     }
 
     /// Gets a key of this shard for a session, as `get`, where that is a hit. The time is of no account to one.
@@ -230,21 +193,14 @@ impl Shard {
         requires { IsAtHome self.old.terms key }
         ensures step { (now : ℕ) → let step = get_step self.old.terms
             (past_of self.old) key who floor now in IfOk result (λ hit. IfSome hit
-            (λ got. self.new ≡ stepped (rolled self.old) step)) }
+            (λ got. self.new ≡ stepped self.old step)) }
         ensures shows { (now : ℕ) → let step = get_step self.old.terms
             (past_of self.old) key who floor now in
             IfOk result (λ hit. IfSome hit (ShowsGot step)) }
         ensures none { IfOk result (λ hit. IfNone hit (self.new ≡ self.old)) }
         ensures err { OnErr result (self.new ≡ self.old) }
     {
-        let base = self.next_base();
-        let Some(got) = self.body.get_hit(key, who, floor)? else {
-            return Ok(None);
-        };
-        if let Some(base) = base {
-            self.base = base;
-        }
-        Ok(Some(got))
+        self.body.get_hit(key, who, floor)
     }
 
     /// Stores a value under an I lease, and ends the lease: the entry stands in front, and in a full
@@ -263,17 +219,12 @@ impl Shard {
             Refuses (refusal self.old key step) result }
         ensures step { let step = set_step self.old.terms
             (past_of self.old) key token value stamp now in
-            OnOk result (self.new ≡ stepped (rolled self.old) step) }
+            OnOk result (self.new ≡ stepped self.old step) }
         ensures shows { let step = set_step self.old.terms
             (past_of self.old) key token value stamp now in IfOk result (ShowsSet step) }
         ensures err { OnErr result (self.new ≡ self.old) }
     {
-        let base = self.next_base();
-        let answer = self.body.set(key, token, value, stamp, now)?;
-        if let Some(base) = base {
-            self.base = base;
-        }
-        Ok(answer)
+        self.body.set(key, token, value, stamp, now)
     }
 
     /// Asks for a quarantine of the key, by the rules of compatibility. One that is granted ends the
@@ -293,18 +244,13 @@ impl Shard {
             Refuses (refusal self.old key step) result }
         ensures step { let step = quarantine_step self.old.terms
             (past_of self.old) key sid mode shift now in
-            OnOk result (self.new ≡ stepped (rolled self.old) step) }
+            OnOk result (self.new ≡ stepped self.old step) }
         ensures shows { let step = quarantine_step self.old.terms
             (past_of self.old) key sid mode shift now in
             IfOk result (ShowsQuarantine self.old.terms (past_of self.old) step) }
         ensures err { OnErr result (self.new ≡ self.old) }
     {
-        let base = self.next_base();
-        let answer = self.body.quarantine(key, sid, mode, shift, now)?;
-        if let Some(base) = base {
-            self.base = base;
-        }
-        Ok(answer)
+        self.body.quarantine(key, sid, mode, shift, now)
     }
 
     /// Releases a grant. Where its quarantine stands, it ends: with Keep the entry stays, with Drop it
@@ -427,31 +373,22 @@ impl Shard {
         self.body.sweep_drop(key, token)
     }
 
-    /// The steps in memory, the earliest first: of a whole shard all steps so far.
+    /// The steps in memory, the earliest first: of a whole shard all steps so far, of one that rolls none.
     pub fn history(&self) -> &[Step]
         ensures steps { result.now ≡ kept_of self.now }
-        ensures whole { self.now.terms.keep ≡ None → result.now ≡ self.now.history }
+        ensures whole { self.now.terms.rolls ≡ false → result.now ≡ self.now.history }
         ensures legal { Legal self.now.terms self.now.history }
     {
         self.body.history.as_slice()
     }
 
-    /// The steps in memory, the earliest first: of a whole shard all its steps.
+    /// The steps in memory, the earliest first: of a whole shard all its steps, of one that rolls none.
     pub fn take_history(self) -> Vec<Step>
         ensures steps { result.items ≡ kept_of self }
-        ensures whole { self.terms.keep ≡ None → result.items ≡ self.history }
+        ensures whole { self.terms.rolls ≡ false → result.items ≡ self.history }
         ensures legal { Legal self.terms self.history }
     {
         self.body.history.into_steps()
-    }
-
-    /// What was there before the first step in memory: behind the steps that were given up, or at the
-    /// start. It takes no memory.
-    pub fn base(&self) -> &Base
-        ensures rolled { IsRolled self.now result.now }
-        ensures legal { LegalFrom self.now.terms result.now (kept_of self.now) }
-    {
-        &self.base
     }
 
     /// How many shards there are beside it and itself. It takes no memory.

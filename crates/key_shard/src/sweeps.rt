@@ -59,7 +59,7 @@ impl Body {
         };
         let _ = self.entries.drop_key(&key);
         self.promised -= 1;
-        self.history.push_reserved(Step::Released {
+        self.history.push(Step::Released {
             key,
             sid: quar.sid,
             token,

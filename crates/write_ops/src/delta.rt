@@ -2,7 +2,7 @@ ghost use Rattle.std.specs.Prelude.{◌≡◌, Err, IfOk, IsTrue, OnErr, OnOk};
 ghost use Rattle.std.specs.Bool.{IsFalse};
 ghost use Rattle.rows_model.specs.Delta.{is_count};
 ghost use Rattle.key_shard.specs.Replies.{ShowsQuarantine, ShowsRelease};
-ghost use Rattle.key_shard.specs.Shards.{past_of, is_out, rolled, stepped, returned, refusal};
+ghost use Rattle.key_shard.specs.Shards.{past_of, is_out, stepped, returned, refusal};
 ghost use Rattle.write_ops.specs.Releases.{LeavesShifted, RefusesDelta, apply_step, delta_step};
 
 use key_shard::{Grant, How, QAnswer, Rel, Shard, ShardFault};
@@ -45,7 +45,7 @@ pub fn iq_delta(
     ensures refusal { IsTrue (is_count key) → let step = delta_step shard.old key sid by now in
         RefusesDelta (refusal shard.old key step) result }
     ensures step { let step = delta_step shard.old key sid by now in
-        OnOk result (shard.new ≡ stepped (rolled shard.old) step) }
+        OnOk result (shard.new ≡ stepped shard.old step) }
     ensures shows { let step = delta_step shard.old key sid by now in
         IfOk result (ShowsQuarantine shard.old.terms (past_of shard.old) step) }
     ensures err { OnErr result (shard.new ≡ shard.old) }

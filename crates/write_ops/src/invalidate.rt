@@ -1,7 +1,7 @@
 ghost use Rattle.std.specs.Prelude.{◌≡◌, IfOk, IsTrue, OnErr, OnOk};
 ghost use Rattle.std.specs.Bool.{IsFalse};
 ghost use Rattle.key_shard.specs.Replies.{ShowsQuarantine, ShowsRelease};
-ghost use Rattle.key_shard.specs.Shards.{past_of, is_out, rolled, stepped, returned, refusal, Refuses};
+ghost use Rattle.key_shard.specs.Shards.{past_of, is_out, stepped, returned, refusal, Refuses};
 ghost use Rattle.write_ops.specs.Releases.{LeavesNone, LeavesValue, abort_step, dar_step, qa_step};
 
 use key_shard::{Grant, How, QAnswer, Rel, Shard, ShardFault};
@@ -16,7 +16,7 @@ pub fn qa_reg(shard: &mut Shard, key: QKey, sid: Sid, now: u64) -> Result<QAnswe
     ensures refusal { let step = qa_step shard.old key sid now in
         Refuses (refusal shard.old key step) result }
     ensures step { let step = qa_step shard.old key sid now in
-        OnOk result (shard.new ≡ stepped (rolled shard.old) step) }
+        OnOk result (shard.new ≡ stepped shard.old step) }
     ensures shows { let step = qa_step shard.old key sid now in
         IfOk result (ShowsQuarantine shard.old.terms (past_of shard.old) step) }
     ensures err { OnErr result (shard.new ≡ shard.old) }

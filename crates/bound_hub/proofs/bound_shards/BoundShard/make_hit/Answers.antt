@@ -2,7 +2,7 @@ use Rattle.std.proofs.Common.{◌≡◌, IfSome, sym, ap, subst, ◌∙◌}
 use Rattle.rows_model.specs.Placement.{shard_of}
 use Rattle.key_shard.specs.Answers.{get_step}
 use Rattle.key_shard.specs.Replies.{ShowsGot}
-use Rattle.key_shard.specs.Shards.{ShardView, past_of, rolled, stepped}
+use Rattle.key_shard.specs.Shards.{ShardView, past_of, stepped}
 use Rattle.shard_lock.specs.Names.{IsNamed, IsTokenOf}
 use Rattle.log_word.specs.declared.events.Short.{Short}
 use Rattle.log_word.specs.Steps.{IsBorneOut}
@@ -19,7 +19,7 @@ has_entry-has-requires g c =
     let step = get_step shard.terms (past_of shard) key c.args.who c.args.floor 0 in
     let ensured = c.in-Ok-Some.ensures in
     let shows = subst (λ o. IfSome o (ShowsGot (get_step shard.terms (past_of shard) c.args.key c.args.who c.args.floor 0))) c.in-Ok-Some.field-0-is (ensured.shows 0) in
-    let made = subst (λ o. IfSome o (λ got. c.get_hit.new.self ≡ stepped (rolled shard) (get_step shard.terms (past_of shard) c.args.key c.args.who c.args.floor 0)))
+    let made = subst (λ o. IfSome o (λ got. c.get_hit.new.self ≡ stepped shard (get_step shard.terms (past_of shard) c.args.key c.args.who c.args.floor 0)))
     c.in-Ok-Some.field-0-is (ensured.step 0) in
     let home = subst (λ (v : BoundShardView). shard_of key v.shard.terms.count ≡ v.shard.terms.no) (sym c.self.view_is) c.requires.home in
     record {
@@ -35,7 +35,7 @@ tell-note-requires-clause-borne_out g c =
     let key = c.args.key in
     let ensured = c.in-Ok-Some.ensures in
     let shows = subst (λ o. IfSome o (ShowsGot (get_step shard.terms (past_of shard) c.args.key c.args.who c.args.floor 0))) c.in-Ok-Some.field-0-is (ensured.shows 0) in
-    let made = subst (λ o. IfSome o (λ got. c.get_hit.new.self ≡ stepped (rolled shard) (get_step shard.terms (past_of shard) c.args.key c.args.who c.args.floor 0)))
+    let made = subst (λ o. IfSome o (λ got. c.get_hit.new.self ≡ stepped shard (get_step shard.terms (past_of shard) c.args.key c.args.who c.args.floor 0)))
     c.in-Ok-Some.field-0-is (ensured.step 0) in
     let answer = c.in-Ok-Some.got in
     let step = get_step shard.terms (past_of shard) key c.args.who c.args.floor 0 in
@@ -51,7 +51,7 @@ invariant_of-self-2 g c =
     let key = c.args.key in
     let ensured = c.in-Ok-Some.ensures in
     let shows = subst (λ o. IfSome o (ShowsGot (get_step shard.terms (past_of shard) c.args.key c.args.who c.args.floor 0))) c.in-Ok-Some.field-0-is (ensured.shows 0) in
-    let made = subst (λ o. IfSome o (λ got. c.get_hit.new.self ≡ stepped (rolled shard) (get_step shard.terms (past_of shard) c.args.key c.args.who c.args.floor 0)))
+    let made = subst (λ o. IfSome o (λ got. c.get_hit.new.self ≡ stepped shard (get_step shard.terms (past_of shard) c.args.key c.args.who c.args.floor 0)))
     c.in-Ok-Some.field-0-is (ensured.step 0) in
     let answer = c.in-Ok-Some.got in
     let step = get_step shard.terms (past_of shard) key c.args.who c.args.floor 0 in
@@ -72,7 +72,7 @@ returns-clause-held g c =
     let key = c.args.key in
     let ensured = c.in-Ok-Some.ensures in
     let shows = subst (λ o. IfSome o (ShowsGot (get_step shard.terms (past_of shard) c.args.key c.args.who c.args.floor 0))) c.in-Ok-Some.field-0-is (ensured.shows 0) in
-    let made = subst (λ o. IfSome o (λ got. c.get_hit.new.self ≡ stepped (rolled shard) (get_step shard.terms (past_of shard) c.args.key c.args.who c.args.floor 0)))
+    let made = subst (λ o. IfSome o (λ got. c.get_hit.new.self ≡ stepped shard (get_step shard.terms (past_of shard) c.args.key c.args.who c.args.floor 0)))
     c.in-Ok-Some.field-0-is (ensured.step 0) in
     let answer = c.in-Ok-Some.got in
     let step = get_step shard.terms (past_of shard) key c.args.who c.args.floor 0 in
@@ -87,7 +87,7 @@ returns-clause-held g c =
 pub returns-clause-step : goal.returns-clause-step
 returns-clause-step g c now =
     let shard = c.self.inside.shard in
-    let made = subst (λ o. IfSome o (λ got. c.get_hit.new.self ≡ stepped (rolled shard) (get_step shard.terms (past_of shard) c.args.key c.args.who c.args.floor now)))
+    let made = subst (λ o. IfSome o (λ got. c.get_hit.new.self ≡ stepped shard (get_step shard.terms (past_of shard) c.args.key c.args.who c.args.floor now)))
     c.in-Ok-Some.field-0-is (c.in-Ok-Some.ensures.step now) in
-    subst (λ (v : BoundShardView). c.get_hit.new.self ≡ stepped (rolled v.shard) (get_step v.shard.terms (past_of v.shard) c.args.key c.args.who c.args.floor now))
+    subst (λ (v : BoundShardView). c.get_hit.new.self ≡ stepped v.shard (get_step v.shard.terms (past_of v.shard) c.args.key c.args.who c.args.floor now))
     c.self.view_is made

@@ -4,7 +4,7 @@ use Rattle.rows_model.specs.Placement.{shard_of}
 use Rattle.key_shard.specs.Answers.{quarantine_step}
 use Rattle.key_shard.specs.Past.{Terms, entry}
 use Rattle.key_shard.specs.Replies.{ShowsQuarantine}
-use Rattle.key_shard.specs.Shards.{past_of, rolled, stepped, refusal, Refuses}
+use Rattle.key_shard.specs.Shards.{past_of, stepped, refusal, Refuses}
 use Rattle.log_word.specs.Events.{may_write}
 use Rattle.log_word.specs.Steps.{IsBeginning, IsBorneOut}
 use Rattle.bound_hub.specs.Gets.{IsLastStep}
@@ -13,7 +13,7 @@ use Rattle.bound_hub.specs.Ties.{BoundShardView}
 use Rattle.bound_hub.specs.StepShorts.{quarantine_short}
 use Rattle.bound_hub.proofs.GetLemmas.{not_refused_at_home, has_mapped}
 use Rattle.bound_hub.proofs.QuarantineLemmas.{quarantine_is_honest, quarantine_tells, quarantine_borne_out, quarantine_leaves, grant_is_held, found_is_seen}
-use Rattle.bound_hub.proofs.StepTies.{has_rolled, told_so, invariant_after, step_is_more, step_is_last}
+use Rattle.bound_hub.proofs.StepTies.{has_stepped, told_so, invariant_after, step_is_more, step_is_last}
 use Rattle.bound_hub.proofs.bound_shards.BoundShard.make_quarantine.Goals as goal
 
 pub tell-requires-clause-borne_out : goal.tell-requires-clause-borne_out
@@ -38,7 +38,7 @@ invariant_of-self g c =
     let short = c.quarantine_short-short.ensures in
     invariant_after g.H.HubName.terms c.self.inside.token.parts c.self.inside.token.amount g.H.BoundName.word g.H.HubName.opening before shard pass c.self.invariant c.sound.ensures step
     (quarantine_is_honest shard.terms (past_of shard) a.key a.who a.mode (to_z w32 (of_z w32 a.shift)) a.now g.H.HubName.opening (before shard.terms.no) c.self.invariant.2.more pass.seen)
-    c.quarantine.new.self (has_rolled shard c.quarantine.new.self step made.step) c.quarantine_short-short.result c.tell.new.self
+    c.quarantine.new.self (has_stepped shard c.quarantine.new.self step made.step) c.quarantine_short-short.result c.tell.new.self
     (told_so step c.quarantine_short-short.result c.is_some-has.result a.key c.quarantine.new.self pass c.tell.new.self (short ∙ tells.0) tells.1 has c.tell.ensures.word c.tell.ensures.shard c.tell.ensures.seen)
 
 -- what the shard was told of the shift is the shift
@@ -52,8 +52,8 @@ returns-in-Ok-clause-refusal g c =
 pub returns-in-Ok-clause-step : goal.returns-in-Ok-clause-step
 returns-in-Ok-clause-step g c =
     let a = c.args in
-    subst (λ (v : BoundShardView). c.quarantine.new.self ≡ stepped (rolled v.shard) (quarantine_step v.shard.terms (past_of v.shard) a.key a.who a.mode a.shift a.now)) c.self.view_is
-    (subst (λ by. c.quarantine.new.self ≡ stepped (rolled c.self.inside.shard) (quarantine_step c.self.inside.shard.terms (past_of c.self.inside.shard) a.key a.who a.mode by a.now))
+    subst (λ (v : BoundShardView). c.quarantine.new.self ≡ stepped v.shard (quarantine_step v.shard.terms (past_of v.shard) a.key a.who a.mode a.shift a.now)) c.self.view_is
+    (subst (λ by. c.quarantine.new.self ≡ stepped c.self.inside.shard (quarantine_step c.self.inside.shard.terms (past_of c.self.inside.shard) a.key a.who a.mode by a.now))
     (to_z-of_z w32 a.shift c.ranges.shift) c.in-Ok.ensures.step)
 
 pub returns-in-Ok-clause-shows : goal.returns-in-Ok-clause-shows
@@ -88,7 +88,7 @@ returns-in-Ok-clause-old g c =
     let before = g.H.BoundName.before in
     let step = quarantine_step shard.terms (past_of shard) a.key a.who a.mode (to_z w32 (of_z w32 a.shift)) a.now in
     let home = subst (λ n. shard_of a.key n ≡ shard.terms.no) c.self.invariant.2.count (not_refused_at_home shard a.key step c.in-Ok.answer ensured.refusal) in
-    let made = has_rolled shard c.quarantine.new.self step ensured.step in
+    let made = has_stepped shard c.quarantine.new.self step ensured.step in
     let same_no : c.quarantine.new.self.terms.no ≡ shard.terms.no = ap (λ (t : Terms). t.no) made.terms in
     let now = invariant_of-self g c in
     let held = found_is_seen g.H.BoundName.word g.H.HubName.opening before c.quarantine.new.self c.tell.new.self now.2 a.key (home ∙ sym same_no) (entry a.key (past_of shard))

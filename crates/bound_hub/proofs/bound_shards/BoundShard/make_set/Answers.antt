@@ -10,7 +10,7 @@ use Rattle.bound_hub.specs.Ties.{BoundShardView}
 use Rattle.bound_hub.specs.StepShorts.{set_short}
 use Rattle.bound_hub.proofs.GetLemmas.{not_refused_at_home, has_mapped}
 use Rattle.bound_hub.proofs.SetLemmas.{set_is_honest, set_tells, set_borne_out}
-use Rattle.bound_hub.proofs.StepTies.{has_rolled, told_so, invariant_after, step_is_more, step_is_last}
+use Rattle.bound_hub.proofs.StepTies.{has_stepped, told_so, invariant_after, step_is_more, step_is_last}
 use Rattle.bound_hub.proofs.bound_shards.BoundShard.make_set.Goals as goal
 
 pub tell-requires-clause-borne_out : goal.tell-requires-clause-borne_out
@@ -46,7 +46,7 @@ invariant_of-self g c =
     let tells = set_tells word opening before shard pass bound legal sound a.key a.token a.value a.stamp a.now home may c.in-Ok.answer c.is_some-has.result made.shows in
     let short = c.set_short-short.ensures in
     invariant_after g.H.HubName.terms c.self.inside.token.parts c.self.inside.token.amount word opening before shard pass c.self.invariant sound step
-    (set_is_honest word opening before shard pass bound legal sound a.key a.token a.value a.stamp a.now home may) c.set.new.self (has_rolled shard c.set.new.self step made.step)
+    (set_is_honest word opening before shard pass bound legal sound a.key a.token a.value a.stamp a.now home may) c.set.new.self (has_stepped shard c.set.new.self step made.step)
     c.set_short-short.result c.tell.new.self
     (told_so step c.set_short-short.result c.is_some-has.result a.key c.set.new.self pass c.tell.new.self (short ∙ tells.0) tells.1 has c.tell.ensures.word c.tell.ensures.shard c.tell.ensures.seen)
 

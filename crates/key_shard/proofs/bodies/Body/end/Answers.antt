@@ -14,8 +14,8 @@ use Rattle.key_shard.proofs.bodies.Body.end.Goals as goal
 pub overflow_sub-self : goal.overflow_sub-self
 overflow_sub-self c = omega (arith, two-places c.args.self.now c.args.grant c.args.quar c.requires.stands c.requires.kept c.requires.out)
 
-pub push_reserved-requires : goal.push_reserved-requires
-push_reserved-requires c =
+pub push-requires : goal.push-requires
+push-requires c =
     omega (arith, two-places c.args.self.now c.args.grant c.args.quar c.requires.stands c.requires.kept c.requires.out, c.requires.kept.reserved)
 
 pub returns-clause-kept : goal.returns-clause-kept
@@ -27,7 +27,7 @@ returns-clause-kept c =
     let same = ap (λ k. Released k c.args.quar.sid c.token-token.result c.end_entry-how.result) c.key-key.ensures
     ∙ ap (λ t. Released grant.key c.args.quar.sid t c.end_entry-how.result) c.token-token.ensures
     ∙ ap (Released grant.key c.args.quar.sid grant.token) c.end_entry-how.ensures.how in
-    let pushed = c.push_reserved.ensures.items ∙ ap (λ (s : Step). old.history.steps ++ s ∷ []) same in
+    let pushed = c.push.ensures.items ∙ ap (λ (s : Step). old.history.steps ++ s ∷ []) same in
     let leaves = ended-leaves c.requires.kept.ties grant.key grant.token c.key-key.result c.token-token.result
     c.end_q.result c.args.quar c.end_q.new.self c.key-key.ensures c.token-token.ensures c.end_q.ensures.ended c.end_q.ensures.after c.requires.stands in
     let ends : Ends grant.key how old.entries c.end_entry-how.new.entries =
@@ -37,7 +37,7 @@ returns-clause-kept c =
     let two = two-places old grant c.args.quar c.requires.stands c.requires.kept c.requires.out in
     IsKept-returned old _ step grant 2 (may-take-two old grant c.args.quar c.requires.stands)
     (ended-adds_none (steps_of old) grant.key c.args.quar.sid grant.token how) (ended-gone (steps_of old) grant.key c.args.quar.sid grant.token how)
-    c.requires.kept c.requires.out c.take.ensures pushed (terms-kept old c.end_entry-how.new.entries.room ends.same_room) ties c.requires.kept.one_of
+    c.requires.kept c.requires.out c.take.ensures pushed (terms-kept old c.end_entry-how.new.entries.room _ ends.same_room c.push.ensures.rolls) ties c.requires.kept.one_of
     (omega (arith, two)) (omega (arith, two, c.requires.kept.reserved))
 
 pub returns-clause-step : goal.returns-clause-step
@@ -48,9 +48,9 @@ returns-clause-step c =
     let same = ap (λ k. Released k c.args.quar.sid c.token-token.result c.end_entry-how.result) c.key-key.ensures
     ∙ ap (λ t. Released grant.key c.args.quar.sid t c.end_entry-how.result) c.token-token.ensures
     ∙ ap (Released grant.key c.args.quar.sid grant.token) c.end_entry-how.ensures.how in
-    let pushed = c.push_reserved.ensures.items ∙ ap (λ (s : Step). old.history.steps ++ s ∷ []) same in
-    view-returned old _ c.push_reserved.new.self.steps c.take.new.self c.push_reserved.new.self.gone (Released grant.key c.args.quar.sid grant.token how) grant
-    (terms-kept old c.end_entry-how.new.entries.room c.end_entry-how.ensures.ends.same_room) pushed c.take.ensures c.push_reserved.ensures.gone
+    let pushed = c.push.ensures.items ∙ ap (λ (s : Step). old.history.steps ++ s ∷ []) same in
+    view-returned old _ c.push.new.self.steps c.take.new.self (Released grant.key c.args.quar.sid grant.token how) grant
+    (terms-kept old c.end_entry-how.new.entries.room _ c.end_entry-how.ensures.ends.same_room c.push.ensures.rolls) pushed c.take.ensures
 
 pub take-requires : goal.take-requires
 take-requires c = some-out c.args.self.now c.args.grant c.requires.out

@@ -13,7 +13,7 @@ use Rattle.key_shard.specs.declared.steps.Step.TheVariants.{Granted}
 use Rattle.key_shard.specs.Past.{next_token}
 use Rattle.key_shard.specs.Answers.{Answers}
 use Rattle.key_shard.specs.Kept.{IsOut, AreHeld, places_of, terms_of, steps_of}
-use Rattle.key_shard.proofs.KeptLemmas.{IsKept-still, IsKept-after, IsOut-later, IsOut-granted, held-granted}
+use Rattle.key_shard.proofs.KeptLemmas.{IsKept-still, IsKept-after, IsOut-later, IsOut-granted, held-granted, terms-rolled}
 use Rattle.key_shard.proofs.LookLemmas.{holding-seen}
 use Rattle.key_shard.proofs.PlaceLemmas.{places-more, stood-granted}
 use Rattle.key_shard.proofs.TiesLemmas.{Ties-granted}
@@ -24,17 +24,17 @@ overflow_add-self-2 c = omega (arith, c.in_ok-make_room.ensures.ok, c.make_room.
 
 pub returns-in_err-make_room-clause-kept : goal.returns-in_err-make_room-clause-kept
 returns-in_err-make_room-clause-kept c =
-    IsKept-still c.args.self.now _ c.requires.kept refl c.make_room.ensures.items
+    IsKept-still c.args.self.now _ c.requires.kept (terms-rolled c.args.self.now c.make_room.ensures.rolls) c.make_room.ensures.items
     refl refl refl refl c.requires.kept.one_of c.requires.kept.promises c.make_room.ensures.kept
 
 pub returns-in_err-grant-clause-kept : goal.returns-in_err-grant-clause-kept
 returns-in_err-grant-clause-kept c =
-    IsKept-still c.args.self.now _ c.requires.kept refl c.make_room.ensures.items
+    IsKept-still c.args.self.now _ c.requires.kept (terms-rolled c.args.self.now c.make_room.ensures.rolls) c.make_room.ensures.items
     refl refl refl refl c.requires.kept.one_of c.requires.kept.promises c.make_room.ensures.kept
 
 pub returns-in_default-clause-kept : goal.returns-in_default-clause-kept
 returns-in_default-clause-kept c =
-    IsKept-still c.args.self.now _ c.requires.kept refl c.make_room.ensures.items
+    IsKept-still c.args.self.now _ c.requires.kept (terms-rolled c.args.self.now c.make_room.ensures.rolls) c.make_room.ensures.items
     refl c.in_default.ensures.leases_left refl c.in_default.ensures.outs_left c.requires.kept.one_of c.requires.kept.promises c.make_room.ensures.kept
 
 pub returns-clause-kept : goal.returns-clause-kept
@@ -71,7 +71,7 @@ returns-clause-kept c =
     let fits = places-more (terms_of old) (steps_of old) step stood old.out out c.requires.kept.outs in
     let places = ap (places_of (step ∷ steps_of old)) grown in
     let held = held-granted (steps_of old) old.out out shift c.args.now deadline c.requires.kept.held in
-    IsKept-after old _ step pushed refl ties c.requires.kept.one_of (subst (All (IsOut (terms_of old) (step ∷ steps_of old))) (sym grown) after)
+    IsKept-after old _ step pushed (terms-rolled old (c.push.ensures.rolls ∙ c.make_room.ensures.rolls)) ties c.requires.kept.one_of (subst (All (IsOut (terms_of old) (step ∷ steps_of old))) (sym grown) after)
     (subst (AreHeld (step ∷ steps_of old)) (sym grown) held) (omega (arith, fits, places, c.requires.kept.promises))
     (omega (arith, c.in_ok-make_room.ensures.ok))
 

@@ -8,7 +8,7 @@ use Rattle.key_shard.specs.declared.steps.Step.TheVariants.{Lease}
 use Rattle.key_shard.specs.Past.{next_token}
 use Rattle.key_shard.specs.Answers.{Answers}
 use Rattle.key_shard.specs.Kept.{Ties, terms_of, steps_of}
-use Rattle.key_shard.proofs.KeptLemmas.{IsKept-still, IsKept-step, terms-kept}
+use Rattle.key_shard.proofs.KeptLemmas.{IsKept-still, IsKept-step, terms-kept, terms-rolled}
 use Rattle.key_shard.proofs.LookLemmas.{holding-seen}
 use Rattle.key_shard.proofs.TiesLemmas.{Ties-lease}
 use Rattle.key_shard.proofs.bodies.Body.lease.Goals as goal
@@ -31,16 +31,16 @@ returns-clause-kept c =
     let pushed = c.push.ensures.items ∙ ap (λ (h : List Step). h ++ step ∷ []) c.make_room.ensures.items in
     let ties = Ties-lease (terms_of old) (steps_of old) old.entries.list
     old.leases c.ask_i.new.self old.next c.args.key c.args.who c.args.floor c.args.now token deadline leaves answers c.requires.kept.ties in
-    IsKept-step old _ step (λ k t q e. e) c.requires.kept pushed (terms-kept old c.drop_key.new.self.room c.drop_key.ensures.room)
+    IsKept-step old _ step (λ k t q e. e) c.requires.kept pushed (terms-kept old c.drop_key.new.self.room _ c.drop_key.ensures.room (c.push.ensures.rolls ∙ c.make_room.ensures.rolls))
     (subst (λ (l : List Item). Ties (terms_of old) (step ∷ steps_of old) l c.ask_i.new.self (old.next + 1)) (sym c.drop_key.ensures.list) ties)
     c.requires.kept.one_of c.requires.kept.outs c.requires.kept.held c.requires.kept.promises (omega (arith, c.in_ok-make_room.ensures.ok))
 
 pub returns-in_err-make_room-clause-kept : goal.returns-in_err-make_room-clause-kept
 returns-in_err-make_room-clause-kept c =
-    IsKept-still c.args.self.now _ c.requires.kept refl c.make_room.ensures.items
+    IsKept-still c.args.self.now _ c.requires.kept (terms-rolled c.args.self.now c.make_room.ensures.rolls) c.make_room.ensures.items
     refl refl refl refl c.requires.kept.one_of c.requires.kept.promises c.make_room.ensures.kept
 
 pub returns-in_err-ask_i-clause-kept : goal.returns-in_err-ask_i-clause-kept
 returns-in_err-ask_i-clause-kept c =
-    IsKept-still c.args.self.now _ c.requires.kept refl c.make_room.ensures.items
+    IsKept-still c.args.self.now _ c.requires.kept (terms-rolled c.args.self.now c.make_room.ensures.rolls) c.make_room.ensures.items
     refl c.in_err-ask_i.ensures.err refl refl c.requires.kept.one_of c.requires.kept.promises c.make_room.ensures.kept

@@ -18,7 +18,7 @@ use Rattle.key_shard.proofs.bodies.Body.put.Goals as goal
 pub returns-in-Err-clause-kept : goal.returns-in-Err-clause-kept
 returns-in-Err-clause-kept c =
     let same = c.in-Err.ensures.err in
-    IsKept-still c.args.self.now _ c.requires.kept (terms-kept c.args.self.now c.put_in_front.new.entries.room (ap (λ (t : Table). t.room) same)) refl
+    IsKept-still c.args.self.now _ c.requires.kept (terms-kept c.args.self.now c.put_in_front.new.entries.room _ (ap (λ (t : Table). t.room) same) refl) refl
     (ap (λ (t : Table). t.list) same) refl refl refl c.requires.kept.one_of c.requires.kept.promises c.requires.kept.reserved
 
 -- the key that made room is the one that the past tells, also where the grant's key was read first
@@ -49,7 +49,7 @@ returns-clause-kept c =
     let evicted : Option QKey = evicts (terms_of old) grant.key (steps_of old) in
     let step : Step = Released grant.key c.args.quar.sid grant.token (Put c.args.value c.args.stamp evicted) in
     let room = room-evicted c.requires.kept.ties grant.key c.key-key.result c.key-key.ensures c.in-Ok-put_in_front.ensures.puts.room_by in
-    let pushed = step-pushed old.history.steps c.args.quar.sid c.args.stamp c.push_reserved.ensures.items c.key-key.ensures c.token-token.ensures
+    let pushed = step-pushed old.history.steps c.args.quar.sid c.args.stamp c.push.ensures.items c.key-key.ensures c.token-token.ensures
     c.in-Ok.ensures room in
     let puts = puts_same grant.key c.key-key.result c.args.value c.args.stamp
     evicted c.in-Ok-put_in_front.evicted old.entries c.put_in_front.new.entries c.key-key.ensures room c.in-Ok-put_in_front.ensures.puts in
@@ -61,7 +61,7 @@ returns-clause-kept c =
     IsKept-returned old _ step grant 2 (may-take-two old grant c.args.quar c.requires.stands)
     (ended-adds_none (steps_of old) grant.key c.args.quar.sid grant.token (Put c.args.value c.args.stamp evicted))
     (ended-gone (steps_of old) grant.key c.args.quar.sid grant.token (Put c.args.value c.args.stamp evicted)) c.requires.kept c.requires.out c.take.ensures
-    pushed (terms-kept old c.put_in_front.new.entries.room puts.same_room) ties c.requires.kept.one_of
+    pushed (terms-kept old c.put_in_front.new.entries.room _ puts.same_room c.push.ensures.rolls) ties c.requires.kept.one_of
     (omega (arith, two)) (omega (arith, two, c.requires.kept.reserved))
 
 pub returns-clause-step : goal.returns-clause-step
@@ -70,10 +70,10 @@ returns-clause-step c =
     let grant = c.args.grant in
     let evicted : Option QKey = evicts (terms_of old) grant.key (steps_of old) in
     let room = room-evicted c.requires.kept.ties grant.key c.key-key.result c.key-key.ensures c.in-Ok-put_in_front.ensures.puts.room_by in
-    let pushed = step-pushed old.history.steps c.args.quar.sid c.args.stamp c.push_reserved.ensures.items c.key-key.ensures c.token-token.ensures
+    let pushed = step-pushed old.history.steps c.args.quar.sid c.args.stamp c.push.ensures.items c.key-key.ensures c.token-token.ensures
     c.in-Ok.ensures room in
-    view-returned old _ c.push_reserved.new.self.steps c.take.new.self c.push_reserved.new.self.gone (Released grant.key c.args.quar.sid grant.token (Put c.args.value c.args.stamp evicted))
-    grant (terms-kept old c.put_in_front.new.entries.room c.in-Ok-put_in_front.ensures.puts.same_room) pushed c.take.ensures c.push_reserved.ensures.gone
+    view-returned old _ c.push.new.self.steps c.take.new.self (Released grant.key c.args.quar.sid grant.token (Put c.args.value c.args.stamp evicted))
+    grant (terms-kept old c.put_in_front.new.entries.room _ c.in-Ok-put_in_front.ensures.puts.same_room c.push.ensures.rolls) pushed c.take.ensures
 
 pub take-requires : goal.take-requires
 take-requires c = some-out c.args.self.now c.args.grant c.requires.out
@@ -81,6 +81,6 @@ take-requires c = some-out c.args.self.now c.args.grant c.requires.out
 pub overflow_sub-self : goal.overflow_sub-self
 overflow_sub-self c = omega (arith, two-places c.args.self.now c.args.grant c.args.quar c.requires.stands c.requires.kept c.requires.out)
 
-pub push_reserved-requires : goal.push_reserved-requires
-push_reserved-requires c =
+pub push-requires : goal.push-requires
+push-requires c =
     omega (arith, two-places c.args.self.now c.args.grant c.args.quar c.requires.stands c.requires.kept c.requires.out, c.requires.kept.reserved)

@@ -3,7 +3,7 @@ use Rattle.case_tables.specs.declared.grids.Verdict.TheVariants as verdicts
 use Rattle.key_shard.specs.Past.{standing}
 use Rattle.key_shard.specs.Kept.{shown, terms_of, steps_of}
 use Rattle.key_shard.specs.Shards.{is_out}
-use Rattle.key_shard.proofs.BaseLaws.{raise-gone}
+use Rattle.key_shard.proofs.GrantLemmas.{raise-gone}
 use Rattle.key_shard.proofs.LegalLemmas.{legal_stands_well}
 use Rattle.key_shard.proofs.OutLemmas.{out-stands}
 use Rattle.key_shard.proofs.OutRaises.{raise-answers, raise-judged, raise-none, raise-found}

@@ -14,8 +14,8 @@ unwrap-requires c =
     subst IsSome (sym (other-found c.requires.kept.ties c.args.grant.key c.key-key.result c.args.grant.sid c.sid-sid.result c.other.result
     c.key-key.ensures c.sid-sid.ensures c.other.ensures)) c.requires.beside
 
-pub note_also-requires-clause-answers : goal.note_also-requires-clause-answers
-note_also-requires-clause-answers c =
+pub note-requires-clause-answers : goal.note-requires-clause-answers
+note-requires-clause-answers c =
     subst (Answers (terms_of c.args.self.now) (steps_of c.args.self.now)) (shared-named c.requires.kept.ties c.args.grant c.key-key.result
     c.sid-sid.result c.token-token.result c.other.result c.unwrap.result c.key-key.ensures c.sid-sid.ensures c.token-token.ensures c.other.ensures
     c.unwrap.ensures) c.requires.answers

@@ -7,7 +7,7 @@ use Rattle.key_shard.specs.declared.steps.Step.{Step}
 use Rattle.key_shard.specs.declared.steps.Step.TheVariants.{Stored}
 use Rattle.key_shard.specs.Past.{evicts}
 use Rattle.key_shard.specs.Kept.{Puts, terms_of, steps_of}
-use Rattle.key_shard.proofs.KeptLemmas.{IsKept-still, IsKept-step, terms-kept}
+use Rattle.key_shard.proofs.KeptLemmas.{IsKept-still, IsKept-step, terms-kept, terms-rolled}
 use Rattle.key_shard.proofs.TiesLemmas.{Ties-stored, evicts-room}
 use Rattle.key_shard.proofs.bodies.Body.store.Goals as goal
 
@@ -28,16 +28,16 @@ returns-clause-kept c =
     ∷ []) c.make_room.ensures.items ∙ ap (λ e. old.history.steps ++ Stored c.args.key c.args.token c.args.now c.args.value c.args.stamp e ∷ []) same in
     let ties = Ties-stored (terms_of old) (steps_of old) old.entries.list old.leases
     c.take_i.new.self old.next c.args.key c.args.token c.args.now c.args.value c.args.stamp evicted put puts leaves c.requires.answers c.requires.kept.ties in
-    IsKept-step old _ step (λ k t q e. e) c.requires.kept pushed (terms-kept old put.room puts.same_room)
+    IsKept-step old _ step (λ k t q e. e) c.requires.kept pushed (terms-kept old put.room _ puts.same_room (c.push.ensures.rolls ∙ c.make_room.ensures.rolls))
     ties c.requires.kept.one_of c.requires.kept.outs c.requires.kept.held c.requires.kept.promises (omega (arith, c.in_ok-make_room.ensures.ok))
 
 pub returns-in_err-make_room-clause-kept : goal.returns-in_err-make_room-clause-kept
 returns-in_err-make_room-clause-kept c =
-    IsKept-still c.args.self.now _ c.requires.kept refl c.make_room.ensures.items
+    IsKept-still c.args.self.now _ c.requires.kept (terms-rolled c.args.self.now c.make_room.ensures.rolls) c.make_room.ensures.items
     refl refl refl refl c.requires.kept.one_of c.requires.kept.promises c.make_room.ensures.kept
 
 pub returns-in_default-clause-kept : goal.returns-in_default-clause-kept
 returns-in_default-clause-kept c =
     let same = c.in_default.ensures.err in
-    IsKept-still c.args.self.now _ c.requires.kept (terms-kept c.args.self.now c.put_in_front.new.entries.room (ap (λ (t : Table). t.room) same))
+    IsKept-still c.args.self.now _ c.requires.kept (terms-kept c.args.self.now c.put_in_front.new.entries.room _ (ap (λ (t : Table). t.room) same) c.make_room.ensures.rolls)
     c.make_room.ensures.items (ap (λ (t : Table). t.list) same) refl refl refl c.requires.kept.one_of c.requires.kept.promises c.make_room.ensures.kept

@@ -21,8 +21,8 @@ overflow_sub-self c =
     c.args.token ended.Drop c.in-Some.quar stands old.out c.requires.kept.outs (c.requires.kept.held c.args.key c.args.token c.in-Some.quar stands) in
     omega (arith, fewer, c.requires.kept.promises)
 
-pub push_reserved-requires : goal.push_reserved-requires
-push_reserved-requires c =
+pub push-requires : goal.push-requires
+push-requires c =
     let old = c.args.self.now in
     let stands = stands-found c.requires.kept.ties c.args.key c.args.token c.args.key c.args.token (Some c.in-Some.quar) refl refl c.in-Some.ensures.ended in
     let fewer = places-dropped (terms_of old) (steps_of old) c.args.key c.in-Some.quar.sid
@@ -45,6 +45,6 @@ returns-clause-kept c =
     let held = held-later (steps_of old) step none old.out c.requires.kept.held in
     let fewer = places-dropped (terms_of old) (steps_of old) c.args.key quar.sid c.args.token ended.Drop quar stands old.out c.requires.kept.outs
     (c.requires.kept.held c.args.key c.args.token quar stands) in
-    IsKept-after old _ step c.push_reserved.ensures.items (terms-kept old c.drop_key.new.self.room c.drop_key.ensures.room) ties c.requires.kept.one_of outs
+    IsKept-after old _ step c.push.ensures.items (terms-kept old c.drop_key.new.self.room _ c.drop_key.ensures.room c.push.ensures.rolls) ties c.requires.kept.one_of outs
     held (omega (arith, fewer, c.requires.kept.promises))
-    (omega (arith, fewer, c.requires.kept.promises, c.requires.kept.reserved, c.push_reserved.ensures.len, c.push_reserved.ensures.capacity))
+    (omega (arith, fewer, c.requires.kept.promises, c.requires.kept.reserved, c.push.ensures.len, c.push.ensures.capacity))
