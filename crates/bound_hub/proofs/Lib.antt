@@ -23,7 +23,6 @@ pub mod StandingGrants
 pub mod MarkShorts
 pub mod AloneLemmas
 pub mod WriteTies
-pub mod CountLemmas
 pub mod ReleaseLemmas
 pub mod RaiseTies
 pub mod SweepTies

@@ -10,7 +10,7 @@ ghost use Rattle.bound_hub.specs.Gets.{IsLastStep};
 ghost use Rattle.bound_hub.specs.Olds.{IsRaiseHeld};
 ghost use Rattle.bound_hub.specs.StepShorts.{raise_short, renew_short};
 
-use crate::bound_shards::{BoundShard, kept_steps};
+use crate::bound_shards::{BoundShard, legal};
 use crate::names::BoundName;
 use crate::step_shorts::{raise_short, renew_short};
 use key_shard::{Grant, Raising, Renewal};
@@ -72,13 +72,15 @@ impl<H: BoundName> BoundShard<H> {
         ensures note { (result.1.word ≡ H.word) × (result.1.seen ≡ self.new.seen) }
     {
         let (key, sid, token) = (grant.key(), grant.sid(), grant.token());
-        let kept = kept_steps(&self.shard);
+        let out = self.shard.is_out(&grant);
+        legal(&self.shard);
         self.pass.sound();
         let answer = match self.shard.raise(grant) {
             Ok(answer) => answer,
             Err(grant) => return (Err(grant), self.pass.note(word)),
         };
-        if kept_steps(&self.shard) == kept {
+        legal(&self.shard);
+        if !out {
             return (Ok(answer), self.pass.note(word));
         }
         let has = self.shard.peek(&key).is_some();
@@ -142,13 +144,15 @@ impl<H: BoundName> BoundShard<H> {
             self.new.seen) }
         ensures note { (result.1.word ≡ H.word) × (result.1.seen ≡ self.new.seen) }
     {
-        let kept = kept_steps(&self.shard);
+        let out = self.shard.is_out(grant);
+        legal(&self.shard);
         self.pass.sound();
         let answer = match self.shard.renew(grant, now) {
             Ok(answer) => answer,
             Err(fault) => return (Err(fault), self.pass.note(word)),
         };
-        if kept_steps(&self.shard) == kept {
+        legal(&self.shard);
+        if !out {
             return (Ok(answer), self.pass.note(word));
         }
         let key = grant.key();

@@ -11,7 +11,7 @@ ghost use Rattle.bound_hub.specs.Releases.{MayRelease};
 ghost use Rattle.bound_hub.specs.StepShorts.{release_short, replace_short};
 ghost use Rattle.bound_hub.specs.Writes.{MayPut};
 
-use crate::bound_shards::{BoundShard, kept_steps};
+use crate::bound_shards::{BoundShard, legal};
 use crate::names::BoundName;
 use crate::step_shorts::{release_short, replace_short};
 use key_shard::{Back, Grant, How, Rel};
@@ -69,10 +69,12 @@ impl<H: BoundName> BoundShard<H> {
         ensures note { (result.1.word ≡ H.word) × (result.1.seen ≡ self.new.seen) }
     {
         let (key, sid, token) = (grant.key(), grant.sid(), grant.token());
-        let kept = kept_steps(&self.shard);
+        let out = self.shard.is_out(&grant);
+        legal(&self.shard);
         self.pass.sound();
         let answer = self.shard.release(grant, how);
-        if kept_steps(&self.shard) == kept {
+        legal(&self.shard);
+        if !out {
             return (answer, self.pass.note(word));
         }
         let has = self.shard.peek(&key).is_some();
@@ -148,13 +150,15 @@ impl<H: BoundName> BoundShard<H> {
         ensures note { (result.1.word ≡ H.word) × (result.1.seen ≡ self.new.seen) }
     {
         let (key, sid, token) = (grant.key(), grant.sid(), grant.token());
-        let kept = kept_steps(&self.shard);
+        let out = self.shard.is_out(&grant);
+        legal(&self.shard);
         self.pass.sound();
         let answer = match self.shard.replace(grant, value, stamp) {
             Ok(answer) => answer,
             Err(back) => return (Err(back), self.pass.note(word)),
         };
-        if kept_steps(&self.shard) == kept {
+        legal(&self.shard);
+        if !out {
             return (Ok(answer), self.pass.note(word));
         }
         let has = self.shard.peek(&key).is_some();

@@ -9,7 +9,7 @@ ghost use Rattle.bound_hub.specs.Asked.{MaySet};
 ghost use Rattle.bound_hub.specs.Gets.{IsLastStep};
 ghost use Rattle.bound_hub.specs.StepShorts.{set_short};
 
-use crate::bound_shards::{BoundShard, kept_steps};
+use crate::bound_shards::{BoundShard, legal};
 use crate::names::BoundName;
 use crate::step_shorts::set_short;
 use key_shard::{SetAnswer, ShardFault};
@@ -87,7 +87,7 @@ impl<H: BoundName> BoundShard<H> {
             self.new.seen) }
         ensures note { (result.1.word ≡ H.word) × (result.1.seen ≡ self.new.seen) }
     {
-        let _kept = kept_steps(&self.shard);
+        legal(&self.shard);
         self.pass.sound();
         match self.shard.set(key, token, value, stamp, now) {
             Ok(answer) => {

@@ -294,11 +294,9 @@ fn has_entry(shard: &Shard, key: &QKey, got: &Got) -> bool
     }
 }
 
-/// How many steps of the shard are in memory.
-pub(crate) fn kept_steps(shard: &Shard) -> usize
-    ensures count { result + shard.now.gone ≡ length shard.now.history }
-    ensures legal { Legal shard.now.terms shard.now.history }
+/// The shard's history is legal.
+pub(crate) fn legal(shard: &Shard)
+    ensures { Legal shard.now.terms shard.now.history }
 {
-    let _base = shard.base();
-    shard.history().len()
+    let _ = shard.history();
 }

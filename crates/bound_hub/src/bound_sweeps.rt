@@ -13,7 +13,7 @@ ghost use Rattle.bound_hub.specs.Gets.{IsLastStep};
 ghost use Rattle.bound_hub.specs.Sweeps.{HasSeenGrant};
 ghost use Rattle.bound_hub.specs.StepShorts.{release_short};
 
-use crate::bound_shards::{BoundShard, kept_steps};
+use crate::bound_shards::{BoundShard, legal};
 use crate::names::BoundName;
 use crate::step_shorts::release_short;
 use key_shard::{How, Rel};
@@ -104,7 +104,7 @@ impl<H: BoundName> BoundShard<H> {
             (release_short key sid token How.Drop result.0 false) self.new.seen }
         ensures note { (result.1.word ≡ H.word) × (result.1.seen ≡ self.new.seen) }
     {
-        let _kept = kept_steps(&self.shard);
+        legal(&self.shard);
         self.pass.sound();
         let answer = self.shard.sweep_drop(key, token);
         match answer {

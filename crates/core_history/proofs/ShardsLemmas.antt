@@ -44,7 +44,7 @@ slice_get-set_other (y ∷ xs) (suc place) (suc other) x h = slice_get-set_other
 -- a shard after the step of a request
 abbrev pub grown : ShardView → Wanted → Step → ShardView
 grown shard request made =
-    record { terms = shard.terms; history = shard.history ++ made ∷ []; out = out_by shard.terms request made shard.out; gone = shard.gone }
+    record { terms = shard.terms; history = shard.history ++ made ∷ []; out = out_by shard.terms request made shard.out }
 
 -- the shards after an event that changes one of them alone
 pub shards_after : (shape : Shape) (past : List Event) (event : Event) (home : ℕ) (new : ShardView) (shards : List ShardView) → HasShards shards shape past
@@ -88,7 +88,7 @@ shards_after_step shape past who request made reply home shards has within =
     (λ place apart. ap (after place) apart)
   where
     H : List Step → ShardView
-    H history = record { terms = terms_of shape home; history = history; out = out_by (terms_of shape home) request made (out_of shape home past); gone = 0 }
+    H history = record { terms = terms_of shape home; history = history; out = out_by (terms_of shape home) request made (out_of shape home past) }
 
     after : ℕ → Bool → ShardView
     after place b =
@@ -96,7 +96,6 @@ shards_after_step shape past who request made reply home shards has within =
           terms = terms_of shape place;
           history = reverse (cond b (made ∷ []) [] ++ steps_of place past);
           out = cond b (out_by (terms_of shape place) request made (out_of shape place past)) (out_of shape place past);
-          gone = 0;
         }
 
 -- a step of the sweeper's that makes none on a shard leaves the shards
@@ -104,7 +103,7 @@ pub shards_looked : (shards : List ShardView) (shape : Shape) (past : List Event
     → HasShards shards shape past → HasShards shards shape (Swept place request None reply ∷ past)
 shards_looked shards shape past place request reply has =
     shards_same shards shape past (Swept place request None reply) has
-    (λ at. ap (λ (steps : List Step). record { terms = terms_of shape at; history = reverse steps; out = out_of shape at past; gone = 0 })
+    (λ at. ap (λ (steps : List Step). record { terms = terms_of shape at; history = reverse steps; out = out_of shape at past })
     (none (place == at) (steps_of at past)))
   where
     none : (b : Bool) (steps : List Step) → cond b [] [] ++ steps ≡ steps
@@ -128,13 +127,12 @@ shards_swept shape past request key token reply home shards has within =
           terms = terms_of shape place;
           history = reverse (cond b (option_to_list made) [] ++ steps_of place past);
           out = out_of shape place past;
-          gone = 0;
         }
 
     by : (found : Option Quar) → swept (shard_after shape past home) (sweep_by key token found) ≡ after home (sweep_by key token found) true
     by None = refl
     by (Some quar) =
-        ap (λ (history : List Step). record { terms = terms_of shape home; history = history; out = out_of shape home past; gone = 0 })
+        ap (λ (history : List Step). record { terms = terms_of shape home; history = history; out = out_of shape home past })
         (turned (steps_of home past) (Released key quar.sid token Drop))
 
 -- an event at the store leaves the shards, and so does a tick
@@ -173,7 +171,7 @@ some_is a b e = cc
 pub whole_shards : (shards : List ShardView) (shape : Shape) (past : List Event) → HasShards shards shape past → KeepAll shards
 whole_shards shards shape past has place shard found =
     let below : place < shape.shards = omega (arith, has.count, slice_get_within shards place shard found) in
-    ap (λ (v : ShardView). v.terms.keep) (some_is shard (shard_after shape past place) (sym found ∙ has.each place below))
+    ap (λ (v : ShardView). v.terms.rolls) (some_is shard (shard_after shape past place) (sym found ∙ has.each place below))
 
 -- after fewer than 2^32 events each key's shard is there, with tokens left
 pub homes_of : (shards : List ShardView) (shape : Shape) (past : List Event) → HasShards shards shape past → length past < 2 ^ 32 → HasHomes shards

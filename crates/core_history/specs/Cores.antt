@@ -52,7 +52,7 @@ origin_of shape core =
 -- the shard of this number after these events
 abbrev pub shard_after : Shape → List Event → ℕ → ShardView
 shard_after shape past place =
-    record { terms = terms_of shape place; history = reverse (steps_of place past); out = out_of shape place past; gone = 0 }
+    record { terms = terms_of shape place; history = reverse (steps_of place past); out = out_of shape place past }
 
 -- the shards are those of the shape, after these events
 pub record HasShards (shards : List ShardView) (shape : Shape) (past : List Event) : Type 0 where
@@ -62,7 +62,7 @@ pub record HasShards (shards : List ShardView) (shape : Shape) (past : List Even
 
 -- each shard has all its steps in memory
 abbrev pub KeepAll : List ShardView → Type 0
-KeepAll shards = (place : ℕ) (shard : ShardView) → slice_get shards place ≡ Some shard → shard.terms.keep ≡ None
+KeepAll shards = (place : ℕ) (shard : ShardView) → slice_get shards place ≡ Some shard → shard.terms.rolls ≡ false
 
 -- a count of faults rose by at least so many, or it stands at the end of its type, where it may have begun
 abbrev pub RoseBy : ℕ → ℕ → ℕ → Type 0

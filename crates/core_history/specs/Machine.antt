@@ -50,7 +50,7 @@ use Rattle.core_history.specs.Events.{Event, Stepped, Called, Ticked, Swept, ste
 -- What a shard of this shape is made with. Its tokens begin at 1, and it is whole.
 abbrev pub terms_of : Shape → ℕ → Terms
 terms_of shape place =
-    record { no = place; count = shape.shards; room = shape.room; life = shape.life; first = 1; keep = None }
+    record { no = place; count = shape.shards; room = shape.room; life = shape.life; first = 1; rolls = false }
 
 -- How many commits a log holds at most.
 abbrev pub log_cap : ℕ

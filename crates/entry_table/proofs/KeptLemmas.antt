@@ -152,10 +152,10 @@ promoted-first k room (e ∷ es) q held at same h =
     let key : e.0 ≡ k = sym (ap (λ (p : QKey × Held). p.0) is) ∙ same in
     let there : lookup k (held_item e ∷ map held_item es) ≡ Some (e.1.value, e.1.stamp) =
     lookup-cons k (held_item e) (map held_item es) ∙ ap (λ b. cond b (Some (e.1.value, e.1.stamp)) (lookup k (map held_item es)))
-        (ap (λ (x : QKey). same_key x k) key ∙ same_key-refl k) in
+    (ap (λ (x : QKey). same_key x k) key ∙ same_key-refl k) in
     let rest : without k (held_item e ∷ map held_item es) ≡ map held_item es =
     without-cons k (held_item e) (map held_item es)
-        ∙ ap (λ b. cond b (without k (map held_item es)) (held_item e ∷ without k (map held_item es))) (ap (λ (x : QKey). same_key x k) key ∙ same_key-refl k)
-        ∙ without-absent k (map held_item es) (ap (λ (x : QKey). lookup x (map held_item es)) (sym key) ∙ h.0) in
+    ∙ ap (λ b. cond b (without k (map held_item es)) (held_item e ∷ without k (map held_item es))) (ap (λ (x : QKey). same_key x k) key ∙ same_key-refl k)
+    ∙ without-absent k (map held_item es) (ap (λ (x : QKey). lookup x (map held_item es)) (sym key) ∙ h.0) in
     promoted-found k (table_of room (held_item e ∷ map held_item es)) e.1.value e.1.stamp there
     ∙ ap (table_of room) (ap (λ (x : QKey). (x, e.1.value, e.1.stamp) ∷ without k (held_item e ∷ map held_item es)) (sym key) ∙ ap (λ l. held_item e ∷ l) rest)

@@ -339,6 +339,13 @@ impl Shard {
         self.body.is_home(key)
     }
 
+    /// Whether the grant is out at this shard: it was granted here, and wasn't handed back. It takes no memory.
+    pub fn is_out(&self, grant: &Grant) -> bool
+        ensures { result ≡ is_out self.now grant.now }
+    {
+        self.body.is_out(grant)
+    }
+
     /// A time before which no quarantine's deadline comes, so that `expired` finds none until then. It may
     /// be earlier than the first deadline. It takes no memory.
     pub fn next_due(&self) -> u64

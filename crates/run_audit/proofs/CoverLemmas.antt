@@ -34,10 +34,10 @@ use Rattle.run_audit.proofs.ListLemmas.{clash, or_comm, and_elim, place-of, any-
 -- ---- which shards are whole
 
 pub whole-at : (shards : List ShardView) (i : ℕ) (shard : ShardView) → i < length shards → shard ≡ get_or shards i shard
-    → AreWhole shards → shard.terms.keep ≡ None
+    → AreWhole shards → shard.terms.rolls ≡ false
 whole-at shards i shard in' is whole =
-    subst (λ (one : ShardView). one.terms.keep ≡ None) (sym is)
-    (All-get_or (λ (one : ShardView). one.terms.keep ≡ None) shards i shard in' whole)
+    subst (λ (one : ShardView). one.terms.rolls ≡ false) (sym is)
+    (All-get_or (λ (one : ShardView). one.terms.rolls ≡ false) shards i shard in' whole)
 
 -- ---- what is granted, with one history more
 

@@ -1,5 +1,5 @@
 -- What an audit finds of a log and of the histories of the shards.
-use Rattle.std.specs.Prelude.{ℕ, ◌≡◌, ◌+◌, ◌<◌, ◌^◌, true, List, length, take, map, reverse, slice_get, Some, None, All}
+use Rattle.std.specs.Prelude.{ℕ, ◌≡◌, ◌+◌, ◌<◌, ◌^◌, true, false, List, length, take, map, reverse, slice_get, Some, None, All}
 use Rattle.rows_model.specs.declared.keys.QKey.{QKey}
 use Rattle.rows_model.specs.declared.keys.Sid.{Sid}
 use Rattle.rows_model.specs.Rows.{Tables}
@@ -18,7 +18,7 @@ histories_in shards = map (λ shard. shard.history) shards
 
 -- Each shard is whole: its history is in memory from the first step on.
 abbrev pub AreWhole : List ShardView → Type 0
-AreWhole shards = All (λ shard. shard.terms.keep ≡ None) shards
+AreWhole shards = All (λ shard. shard.terms.rolls ≡ false) shards
 
 -- A shard has this number, of so many.
 pub record IsNumbered (number total : ℕ) (shard : ShardView) : Type 0 where

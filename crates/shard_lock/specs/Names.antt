@@ -1,5 +1,5 @@
 -- What the locks of a hub keep of what was handed in.
-use Rattle.std.specs.Prelude.{ℕ, ◌≡◌, ◌+◌, ◌^◌, ◌<◌, ◌≤◌, List, length, Option, Some, IsSome, slice_get, All}
+use Rattle.std.specs.Prelude.{ℕ, ◌≡◌, ◌+◌, ◌^◌, ◌<◌, ◌≤◌, List, length, Option, Some, IsSome, slice_get, All, Bool}
 use Rattle.std.specs.Option.{ForSome}
 use Rattle.rows_model.specs.Rows.{Tables}
 use Rattle.key_shard.specs.Answers.{Legal}
@@ -50,12 +50,12 @@ pub record AreAll (terms : ℕ → Terms) (shards : List ShardView) : Type 0 whe
 
 -- What the shard of this number is made with, one of so many with this room, whose leases live so long, and that is whole or
 -- rolls. The first token is 1.
-abbrev pub terms_at : ℕ → ℕ → ℕ → Option ℕ → ℕ → Terms
-terms_at count room life keep place = record {
+abbrev pub terms_at : ℕ → ℕ → ℕ → Bool → ℕ → Terms
+terms_at count room life rolls place = record {
   no = place;
   count = count;
   room = room;
   life = life;
   first = 1;
-  keep = keep;
+  rolls = rolls;
 }

@@ -82,7 +82,7 @@ pub fn hub_of<H: BoundName>(
         H.known_rows H.start shape.now store made.word.0 }
     ensures pass { IfOk result (λ answer. answer.1.word ≡ H.word) }
 {
-    let shards = new_shards(alloc, shape.shards, shape.room, shape.life, None)?;
+    let shards = new_shards(alloc, shape.shards, shape.room, shape.life, false)?;
     let store = store.named::<StartOf<H>>();
     let MadeOf { ledger, word } = made;
     match BoundHub::new(alloc, store, shards, ledger, word) {

@@ -85,7 +85,7 @@ fn happens(rt: &impl Abort, alloc: Global, shard: &mut Shard, event: Event)
 fn shard_after(rt: &impl Abort, alloc: Global, no: u32, count: u32, events: &[Event]) -> Shard
     requires { no < count }
     ensures numbered { IsNumbered no count result }
-    ensures whole { result.terms.keep ≡ None }
+    ensures whole { result.terms.rolls ≡ false }
 {
     let Ok(mut shard) = Shard::new(alloc, no, count, 4, 100, 1) else {
         panic!(rt; "no memory");
@@ -251,7 +251,7 @@ fn goes_by_the_last_commit_of_a_session(rt: HostRuntime) {
 fn found_of_two(rt: &impl Abort, alloc: Global, log: &[Commit], shards: &[Shard], want: Finding)
     requires { (first : ShardView) × (second : ShardView) × (shards.now ≡ first ∷ second ∷ [])
         × IsNumbered 0 2 first × IsNumbered 1 2 second
-        × (first.terms.keep ≡ None) × (second.terms.keep ≡ None) }
+        × (first.terms.rolls ≡ false) × (second.terms.rolls ≡ false) }
 {
     match audit(alloc, &opening(rt, alloc), log, shards) {
         Ok(finding) => assert!(rt; finding == want),

@@ -35,7 +35,7 @@ fn lists_the_entries_the_most_recent_first(rt: HostRuntime) {
         let put = entries.put(profile(id), value_of(&rt, alloc, text), stamp);
         assert!(rt; matches!(put, Ok(None)));
     }
-    assert!(rt; entries.find(&profile(1)).is_some());
+    entries.promote(&profile(1));
     match entries.list() {
         Ok(list) => {
             assert!(rt; entries.drop_key(&profile(1)));

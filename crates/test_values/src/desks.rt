@@ -29,12 +29,11 @@ impl Desk {
     }
 
     /// A desk over a new shard that rolls, with room for so many entries.
-    pub fn rolling(rt: &impl Abort, alloc: Global, room: u32, first: u64, keep: u32) -> Desk
+    pub fn rolling(rt: &impl Abort, alloc: Global, room: u32, first: u64) -> Desk
         requires roomy { 1 ≤ room }
         requires tokens { 1 ≤ first }
-        requires keeps { 1 ≤ keep }
     {
-        match Shard::rolling(alloc, 0, 1, room, 100, first, keep) {
+        match Shard::rolling(alloc, 0, 1, room, 100, first) {
             Ok(shard) => Desk::over(shard),
             Err(_) => panic!(rt; "no memory"),
         }

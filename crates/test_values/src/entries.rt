@@ -67,7 +67,10 @@ fn call_text(
     call: Call,
 ) -> Result<String, AllocError> {
     match call {
-        Call::Find(id) => found(alloc, table.find(&key(id))),
+        Call::Promote(id) => {
+            table.promote(&key(id));
+            found(alloc, table.peek(&key(id)))
+        }
         Call::Peek(id) => found(alloc, table.peek(&key(id))),
         Call::Drop(id) => format!(in alloc; "{}", table.drop_key(&key(id))),
         Call::Put(id, text, stamp) => {
@@ -106,9 +109,9 @@ fn check(rt: &impl Abort, alloc: Global, room: u32, calls: &[(Call, &str)])
 const ROOM_FOR_TWO: [(Call, &str); 16] = [
     (Call::Put(1, "a", 0), "put"),
     (Call::Put(2, "b", 1), "put"),
-    (Call::Find(1), "a 0"),
+    (Call::Promote(1), "a 0"),
     (Call::Put(3, "c", 2), "dropped 2 b 1"),
-    (Call::Find(2), "none"),
+    (Call::Promote(2), "none"),
     (Call::Put(1, "d", 3), "put"),
     (Call::Peek(3), "c 2"),
     (Call::Put(4, "e", 4), "dropped 3 c 2"),
@@ -125,7 +128,7 @@ const ROOM_FOR_TWO: [(Call, &str); 16] = [
 const ROOM_FOR_ONE: [(Call, &str); 5] = [
     (Call::Put(1, "a", 0), "put"),
     (Call::Put(2, "b", 1), "dropped 1 a 0"),
-    (Call::Find(2), "b 1"),
+    (Call::Promote(2), "b 1"),
     (Call::Put(2, "c", 2), "put"),
     (Call::Peek(2), "c 2"),
 ];
@@ -197,7 +200,10 @@ fn agree(
     let stamp = draws.below(1_000_000);
     let values = (drawn_value(rt, alloc, byte), drawn_value(rt, alloc, byte));
     match draws.below(7) {
-        0 => assert!(rt; cache.find(&key) == list.find(&key)),
+        0 => {
+            cache.promote(&key);
+            assert!(rt; cache.peek(&key) == list.find(&key));
+        }
         1 => assert!(rt; cache.peek(&key) == list.peek(&key)),
         2 => assert!(rt; cache.drop_key(&key) == list.drop_key(&key)),
         3 => reputs(rt, cache, list, key, values, stamp),

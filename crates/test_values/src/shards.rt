@@ -4,7 +4,7 @@ ghost use Rattle.key_shard.specs.Answers.{FitsShift};
 
 use crate::desks::{Desk, fault_text, got_text, rel_text, renewal_text, set_text};
 use crate::txns::value_of;
-use key_shard::{Back, Base, How, Rel};
+use key_shard::{Back, How, Rel};
 use lease_table::{Due, Mode};
 use rows_model::{Kind, QKey, Sid};
 use std::alloc::{AllocError, Global};
@@ -45,8 +45,6 @@ pub enum Call {
     Sweep(u32, u64),
     /// How many steps are in memory.
     Steps,
-    /// How many steps were given up, and the token that was next then.
-    Base,
 }
 
 fn profile(id: u32) -> QKey {
@@ -162,10 +160,6 @@ fn sweep(rt: &impl Abort, desk: &mut Desk, id: u32, token: u64) -> Rel {
     desk.shard.sweep_drop(key, token)
 }
 
-fn base_text(alloc: Global, base: &Base) -> Result<String, AllocError> {
-    format!(in alloc; "{} {}", base.dropped(), base.next())
-}
-
 fn due_text(alloc: Global, due: Option<Due>) -> Result<String, AllocError> {
     match due {
         Some(Due { key, sid, token }) if key.kind == Kind::Profile => {
@@ -204,7 +198,6 @@ pub fn call_text(
         Call::Due(now) => due_text(alloc, desk.shard.expired(now)),
         Call::Sweep(id, token) => rel_text(alloc, sweep(rt, desk, id, token)),
         Call::Steps => format!(in alloc; "{}", desk.shard.history().len()),
-        Call::Base => base_text(alloc, desk.shard.base()),
     }
 }
 

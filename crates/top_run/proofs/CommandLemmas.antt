@@ -24,7 +24,7 @@ use Rattle.top_run.specs.declared.runs.Phase.{Phase}
 use Rattle.top_run.specs.Commands.{AreEarlier, AreLines, AreNoCommand, AreSaved, IsUnread, IsReading, IsRefused, EndedAs, CommandEnded, IsTextPart, IsTextPrinted, LeavesEarlier, LinesEnded, SavedAs}
 use Rattle.top_run.specs.Warms.{HasStoppedFirst, WarmEnded, first_of, nothing_left}
 use Rattle.top_run.specs.Runs.{Held, Tells, Left, IsNotStarted, IsUnasked, Ended, most_taken, is_door_fault}
-use Rattle.top_run.specs.Serves.{Course, ServeEnded, serve_keep, serve_shape}
+use Rattle.top_run.specs.Serves.{Course, ServeEnded, serve_rolls, serve_shape}
 use Rattle.run_words.specs.Words.{AreServe, AreWarm, AreWords, most_served, path_in, warm_path, with_options}
 use Rattle.run_words.specs.Reading.{AreReadAs, IsRead}
 use Rattle.top_run.specs.Works.{WorkEnded}
@@ -661,7 +661,7 @@ same_saved (Some path) (Some other) found spec status.Done rows left old new sam
             are_dumps = subst (λ n. AreDumps n is.dumps) shards is.are_dumps;
             text_is = is.text_is;
             each = λ place steps dump at at_dump.
-                subst (λ (s : Shape). IsDumpedOf (hub_terms s serve_keep place) rows is.opening left.log steps dump) shape (is.each place steps dump at at_dump);
+                subst (λ (s : Shape). IsDumpedOf (hub_terms s serve_rolls place) rows is.opening left.log steps dump) shape (is.each place steps dump at at_dump);
           },
         )
 same_saved (Some path) (Some other) found spec status.Usage rows left old new same shape h = h

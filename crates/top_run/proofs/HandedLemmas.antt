@@ -17,8 +17,8 @@ handed_next f before all (one ∷ later) rest shard steps some first left is sam
     append_assoc before (steps ∷ []) (map f rest) ∙ ap (λ (l : List (List Step)). before ++ l) both ∙ same
 
 -- it is whole where all are
-pub whole_first : (shards : List ShardView) (shard : ShardView) → 0 < length shards → shard ≡ get_or shards 0 shard → AreWhole shards → shard.terms.keep ≡ None
-whole_first shards shard some first whole = ap (λ (s : ShardView). s.terms.keep) first ∙ whole 0 shard some
+pub whole_first : (shards : List ShardView) (shard : ShardView) → 0 < length shards → shard ≡ get_or shards 0 shard → AreWhole shards → shard.terms.rolls ≡ false
+whole_first shards shard some first whole = ap (λ (s : ShardView). s.terms.rolls) first ∙ whole 0 shard some
 
 -- and so are the others
 pub whole_rest : (shards rest : List ShardView) → rest ≡ remove shards 0 → 0 < length shards → AreWhole shards → AreWhole rest

@@ -49,7 +49,7 @@ histories_are shards shape past h =
 pub whole_in : (shards : List ShardView) (shape : Shape) (past : List Event) → HasShards shards shape past → AreWhole shards
 whole_in shards shape past h = λ place default below.
     let is = get_or_from_slice_get shards place (shard_after shape past place) default (h.each place (subst (λ (n : ℕ). place < n) h.count below)) in
-    ap (λ (shard : ShardView). shard.terms.keep) is
+    ap (λ (shard : ShardView). shard.terms.rolls) is
 
 -- the history at a place
 history_is : (shape : Shape) (past : List Event) (place : ℕ) (history : List Step)

@@ -20,11 +20,11 @@ unfolding load
 lists_of spec = length-map-range_with_len (λ worker. map (plan_at spec) (sessions_of spec worker)) 0 spec.workers
 
 -- the parts that are made for a shape of few shards make a hub
-pub make_hub : (shape : Shape) (keep : Option ℕ) (terms : ℕ → Terms) (opening : Tables) (before : ℕ → List Step) (stopped : Bool)
+pub make_hub : (shape : Shape) (rolls : Bool) (terms : ℕ → Terms) (opening : Tables) (before : ℕ → List Step) (stopped : Bool)
     (name parts : ℕ) (word : WordView) (begun failed : ℕ) (made : Parts)
-    → ((place : ℕ) → terms place ≡ hub_terms shape keep place) → AreParts shape terms made → shape.shards ≤ 64
+    → ((place : ℕ) → terms place ≡ hub_terms shape rolls place) → AreParts shape terms made → shape.shards ≤ 64
     → NamesParts name parts word before begun failed made.hub → MakeHub terms opening before stopped name parts word made.hub
-make_hub shape keep terms opening before stopped name parts word begun failed made are_terms are few names =
+make_hub shape rolls terms opening before stopped name parts word begun failed made are_terms are few names =
     let shards = made.hub.shards.items in
     record {
       all = are.shards;

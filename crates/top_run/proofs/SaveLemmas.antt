@@ -36,7 +36,7 @@ use Rattle.conn_server.specs.declared.ends.LineEnd.{LineEnd}
 use Rattle.door_workers.specs.DoorSeen.{DoorSeen}
 use Rattle.top_run.specs.declared.serves.Begun.{Begun}
 use Rattle.top_run.specs.declared.serves.Begun.TheVariants as cache
-use Rattle.top_run.specs.Serves.{BeginsBy, IsAttended, IsServedText, serve_keep, serve_shape}
+use Rattle.top_run.specs.Serves.{BeginsBy, IsAttended, IsServedText, serve_rolls, serve_shape}
 use Rattle.top_run.specs.Warming.{AreRight, IsRightBehind}
 use Rattle.top_run.specs.Works.{hub_terms}
 use Rattle.top_run.proofs.WarmingLemmas.{to_load}
@@ -53,9 +53,9 @@ unmapped f None value is = absurd cc
 unmapped f (Some shard) value is = (shard, refl, cc)
 
 -- the shards of a hub have room for few entries where its shape says so
-pub rooms_of : (shape : Shape) (keep : Option ℕ) (terms : ℕ → Terms) (shards : List ShardView) → ((place : ℕ) → terms place ≡ hub_terms shape keep place)
+pub rooms_of : (shape : Shape) (rolls : Bool) (terms : ℕ → Terms) (shards : List ShardView) → ((place : ℕ) → terms place ≡ hub_terms shape rolls place)
     → AreAll terms shards → shape.room ≤ 65536 → All (λ (shard : ShardView). shard.terms.room ≤ 65536) shards
-rooms_of shape keep terms shards are all few = λ place default below.
+rooms_of shape rolls terms shards are all few = λ place default below.
     let shard = get_or shards place default in
     let same : shard.terms.room ≡ shape.room = ap (λ (t : Terms). t.room) (all.named place default below ∙ are shard.terms.no) in
     omega (arith, same, few)
@@ -218,25 +218,25 @@ same_texts log [] = refl
 same_texts log (shard ∷ shards) = ap (λ (l : List (List ℕ)). dump_text (dump_of log shard) ∷ l) (same_texts log shards)
 
 module _ (spec : ServeSpec) (terms : ℕ → Terms) (store : StoreView) (shards : List ShardView)
-    (are_terms : (place : ℕ) → terms place ≡ hub_terms (serve_shape spec) serve_keep place) (all : AreAll terms shards) (many : length shards ≡ spec.shards)
+    (are_terms : (place : ℕ) → terms place ≡ hub_terms (serve_shape spec) serve_rolls place) (all : AreAll terms shards) (many : length shards ≡ spec.shards)
     (legal : AreLegal shards) (right : IsSome store.known_rows → AreRight store.ledger.opening store.ledger.log shards) where
-  terms_at : (place : ℕ) (shard : ShardView) → slice_get shards place ≡ Some shard → shard.terms ≡ hub_terms (serve_shape spec) serve_keep place
+  terms_at : (place : ℕ) (shard : ShardView) → slice_get shards place ≡ Some shard → shard.terms ≡ hub_terms (serve_shape spec) serve_rolls place
   terms_at place shard at = at_place (IsNamed terms) shards place shard all.named at ∙ ap terms (all.placed place shard at) ∙ are_terms place
 
   -- the dump of a shard is that of the steps that it leaves
   dumped_of : (place : ℕ) (shard : ShardView) → slice_get shards place ≡ Some shard → IsDumpText (dump_text (dump_of store.ledger.log shard)) (dump_of store.ledger.log shard)
-      → IsDumpedOf (hub_terms (serve_shape spec) serve_keep place) store.known_rows store.ledger.opening store.ledger.log (kept_of shard) (dump_of store.ledger.log shard)
+      → IsDumpedOf (hub_terms (serve_shape spec) serve_rolls place) store.known_rows store.ledger.opening store.ledger.log (kept_of shard) (dump_of store.ledger.log shard)
   dumped_of place shard at is =
       let parts : take shard.gone shard.history ++ kept_of shard ≡ shard.history = take-append-drop shard.gone shard.history in
       let loads =
-      to_load (hub_terms (serve_shape spec) serve_keep place) store.ledger.log shard (record { dump = dump_of store.ledger.log shard; bytes = length (dump_text (dump_of store.ledger.log shard)) })
+      to_load (hub_terms (serve_shape spec) serve_rolls place) store.ledger.log shard (record { dump = dump_of store.ledger.log shard; bytes = length (dump_text (dump_of store.ledger.log shard)) })
       store.known_rows store.known_rows store.ledger.opening (rows_after store.ledger.opening store.ledger.log) (terms_at place shard at) (omega arith)
       (at_place (λ (s : ShardView). Legal s.terms s.history) shards place shard legal at)
       (record { dump_is = refl; right = is; bytes_are = refl }) (λ some. some) refl
       (λ some. at_place (IsRightBehind store.ledger.opening store.ledger.log) shards place shard (right some) at) in
       record {
         given_up = take shard.gone shard.history;
-        legal = subst (λ (h : List Step). Legal (hub_terms (serve_shape spec) serve_keep place) h) (sym parts)
+        legal = subst (λ (h : List Step). Legal (hub_terms (serve_shape spec) serve_rolls place) h) (sym parts)
             (subst (λ (t : Terms). Legal t shard.history) (terms_at place shard at)
             (at_place (λ (s : ShardView). Legal s.terms s.history) shards place shard legal at));
         rows_are = subst (λ (h : List Step). (dump_of store.ledger.log shard).rows ≡ rows_in store.ledger.log h) (sym parts) loads.rows_are;
@@ -268,8 +268,8 @@ module _ (spec : ServeSpec) (terms : ℕ → Terms) (store : StoreView) (shards 
         let shard = there.0 in
         let same : dump_of store.ledger.log shard ≡ dump =
         some_same (dump_of store.ledger.log shard) dump (sym (ap (λ (o : Option ShardView). option_map (dump_of store.ledger.log) o) there.1) ∙ sym (slice_get-map (dump_of store.ledger.log) shards place) ∙ here) in
-        subst (λ (s : List Step). IsDumpedOf (hub_terms (serve_shape spec) serve_keep place) store.known_rows store.ledger.opening store.ledger.log s dump) there.2
-        (subst (λ (d : Dump). IsDumpedOf (hub_terms (serve_shape spec) serve_keep place) store.known_rows store.ledger.opening store.ledger.log (kept_of shard) d) same
+        subst (λ (s : List Step). IsDumpedOf (hub_terms (serve_shape spec) serve_rolls place) store.known_rows store.ledger.opening store.ledger.log s dump) there.2
+        (subst (λ (d : Dump). IsDumpedOf (hub_terms (serve_shape spec) serve_rolls place) store.known_rows store.ledger.opening store.ledger.log (kept_of shard) d) same
         (dumped_of place shard there.1 (at_place (λ (s : ShardView). IsDumpText (dump_text (dump_of store.ledger.log s)) (dump_of store.ledger.log s)) shards place shard is.right there.1)));
   }
     where

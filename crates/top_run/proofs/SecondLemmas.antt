@@ -112,7 +112,7 @@ dumps_are_from log count place (shard ∷ shards) (dumped ∷ dumps) many each n
     (λ i s there. let next = numbered (suc i) s there in let number = next.0 in (omega (arith, number), next.1)) in
     λ i. one i ∷ rest i
 
-pub dumps_are_in : (spec : WorkSpec) (store : StoreView) (shards : List ShardView) (dumps : List Dumped) → AreAll (hub_terms (work_shape spec) None) shards
+pub dumps_are_in : (spec : WorkSpec) (store : StoreView) (shards : List ShardView) (dumps : List Dumped) → AreAll (hub_terms (work_shape spec) false) shards
     → AreDumped store.ledger.log shards dumps → map (λ (dumped : Dumped). dumped.dump) dumps ≡ dumps_in (left_by store shards)
 dumps_are_in spec store shards dumps all are =
     dumps_are_from store.ledger.log (length (histories_in shards)) 0 shards dumps are.as_many
@@ -146,7 +146,7 @@ rows_are_left spec left known_rows opening dumps are =
 
 -- and they can be loaded into new shards
 pub can_load_all : (spec : WorkSpec) (left : Left) (known_rows : Option Tables) (opening : Tables) (dumps : List Dumped) (parts : Parts)
-    → AreToLoad spec left known_rows opening dumps → AreParts (work_shape spec) (hub_terms (work_shape spec) None) parts
+    → AreToLoad spec left known_rows opening dumps → AreParts (work_shape spec) (hub_terms (work_shape spec) false) parts
     → CanLoadAll known_rows opening dumps parts.hub.shards.items
 can_load_all spec left known_rows opening dumps parts are made = record {
   as_many = are.as_many ∙ sym made.as_many;
@@ -154,10 +154,10 @@ can_load_all spec left known_rows opening dumps parts are made = record {
       let below = slice_get_within parts.hub.shards.items place shard there in
       let history = stands-within left.histories place (subst (λ n. place < n) (made.as_many ∙ sym are.histories) below) in
       let to = are.each place history.0 dumped history.1 here in
-      let terms : shard.terms ≡ hub_terms (work_shape spec) None place =
-      at_place (IsNamed (hub_terms (work_shape spec) None)) parts.hub.shards.items place shard made.shards.named there
-      ∙ ap (hub_terms (work_shape spec) None) (made.shards.placed place shard there) in
-      let at : (P : Terms → Type 0) → P (hub_terms (work_shape spec) None place) → P shard.terms = λ P h. subst P (sym terms) h in
+      let terms : shard.terms ≡ hub_terms (work_shape spec) false place =
+      at_place (IsNamed (hub_terms (work_shape spec) false)) parts.hub.shards.items place shard made.shards.named there
+      ∙ ap (hub_terms (work_shape spec) false) (made.shards.placed place shard there) in
+      let at : (P : Terms → Type 0) → P (hub_terms (work_shape spec) false place) → P shard.terms = λ P h. subst P (sym terms) h in
       record {
         new = at_place (λ (s : ShardView). s.history ≡ []) parts.hub.shards.items place shard made.new there;
         none_out = at_place (λ (s : ShardView). s.out ≡ []) parts.hub.shards.items place shard made.none_out there;
@@ -224,7 +224,7 @@ module _ (spec : WorkSpec) (known_rows : Option Tables) (opening : Tables) (firs
       ∙ length_loaded new.0.terms one.is.who one.is.now new.0.terms.first one.dumped.dump.rows
       ∙ ap (λ (rows : List DumpRow). 2 * length rows) (rows_at place new.0 history one there)
 
-  module _ (shards : List ShardView) (all : AreAll (hub_terms (work_shape spec) None) shards) (as_many : length shards ≡ spec.shards) where
+  module _ (shards : List ShardView) (all : AreAll (hub_terms (work_shape spec) false) shards) (as_many : length shards ≡ spec.shards) where
     below_all : (place : ℕ) (shard : ShardView) → slice_get shards place ≡ Some shard → place < spec.shards
     below_all place shard is = subst (λ n. place < n) as_many (slice_get_within shards place shard is)
 
@@ -263,8 +263,8 @@ module _ (spec : WorkSpec) (known_rows : Option Tables) (opening : Tables) (firs
         let shard = history_at place second is in
         let new = found place (below_all place shard.0 shard.1) in
         let one = at_new place new.0 new.1 in
-        subst (BeginsLoaded (hub_terms (work_shape spec) None place) (rows_in first.log history)) shard.2
-        (begins_at known_rows opening is_ready.dumps is_ready.olds news is_ready.loaded is_ready.many (hub_terms (work_shape spec) None) is_ready.all before before_is
+        subst (BeginsLoaded (hub_terms (work_shape spec) false place) (rows_in first.log history)) shard.2
+        (begins_at known_rows opening is_ready.dumps is_ready.olds news is_ready.loaded is_ready.many (hub_terms (work_shape spec) false) is_ready.all before before_is
         place new.0 shard.0 (rows_in first.log history) new.1 (all.placed place shard.0 shard.1)
         (at_shard (GoesOn before) place shard.0 goes shard.1) one (rows_at place new.0 history one there))
 
@@ -299,10 +299,10 @@ module _ (spec : WorkSpec) (known_rows : Option Tables) (opening : Tables) (firs
 
   pub make_anew : (store : StoreView) (count start : Option ℕ) (terms : ℕ → Terms) (named_opening : Tables) (cap : ℕ) (named_rows : Option Tables)
       (name parts : ℕ) (word : WordView) (begun failed : ℕ) → spec.shards ≤ 64 → store.ledger.opening ≡ opening → store.known_rows ≡ known_rows
-      → NamesAnew (work_shape spec) None store count start terms named_opening cap named_rows name parts word before begun failed ready.parts.hub
+      → NamesAnew (work_shape spec) false store count start terms named_opening cap named_rows name parts word before begun failed ready.parts.hub
       → MakeHub terms named_opening before (is_none store.known_rows) name parts word ready.parts.hub
   make_anew store count start terms named_opening cap named_rows name parts word begun failed few same told names =
-      let shape = hub_terms (work_shape spec) None in
+      let shape = hub_terms (work_shape spec) false in
       let all = all_loaded known_rows opening is_ready.dumps is_ready.olds news is_ready.loaded is_ready.many shape is_ready.all in
       let many = many_news in
       record {

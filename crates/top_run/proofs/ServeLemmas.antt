@@ -17,7 +17,7 @@ use Rattle.top_run.specs.declared.serves.Begun.TheVariants as cache
 use Rattle.top_run.specs.declared.serves.ColdCause.{ColdCause}
 use Rattle.top_run.specs.declared.serves.ColdCause.TheVariants as why
 use Rattle.top_run.specs.Begins.{BeginsAs}
-use Rattle.top_run.specs.Serves.{serve_shape, serve_keep, begun_line, beginning_in, cold_words, ready_line, ready_text, served_line, serve_text, BeginsBy, IsServedText, IsAttended, HasServed, Course, IsServed, ServeEnded}
+use Rattle.top_run.specs.Serves.{serve_shape, serve_rolls, begun_line, beginning_in, cold_words, ready_line, ready_text, served_line, serve_text, BeginsBy, IsServedText, IsAttended, HasServed, Course, IsServed, ServeEnded}
 use Rattle.door_workers.specs.Attending.{GivesBack, HaveEnds, IsEnough}
 use Rattle.run_words.specs.Words.{most_served, path_in}
 use Rattle.door_workers.specs.DoorSeen.{DoorSeen}
@@ -181,7 +181,7 @@ same_served found spec ended course same h =
           (same_begins_as found.warm spec.warm found.shards (beginning_in course h.opening h.failed) h.begun same.warm h.begins_as);
       fail_only_told = h.fail_only_told;
       failed = h.failed;
-      kept = subst (λ (shape : Shape). IsKept shape serve_keep course.held course.before course.after course.left h.opening h.failed)
+      kept = subst (λ (shape : Shape). IsKept shape serve_rolls course.held course.before course.after course.left h.opening h.failed)
           (same_shape found spec same.members same.shards) h.kept;
       attended = record {
         lines = h.attended.lines;

@@ -40,14 +40,14 @@ module _ (spec : WorkSpec) (course : Course) (none : course.left ≡ nothing_lef
   }
 
   -- it began, and stopped for this
-  halted_so : (first : Left) (opening : Tables) (failed : ℕ) → IsKept (work_shape spec) None course.held course.before course.after first opening failed
+  halted_so : (first : Left) (opening : Tables) (failed : ℕ) → IsKept (work_shape spec) false course.held course.before course.after first opening failed
       → (why : Stop) → IsHalted spec opening first.log first.histories course.before.taken course.after.taken course.written why
       → IsStoppedFirst (stop_status why) spec course.held course.before course.after first course.written
   halted_so first opening failed kept stop.WriteFault cut = record { opening = opening; failed = failed; kept = kept; cut = cut }
   halted_so first opening failed kept stop.Memory prints = inr (record { opening = opening; failed = failed; kept = kept; prints = prints })
 
   pub stopped_first : (first : Left) (opening : Tables) (failed : ℕ) → course.earlier ≡ first ∷ []
-      → IsKept (work_shape spec) None course.held course.before course.after first opening failed
+      → IsKept (work_shape spec) false course.held course.before course.after first opening failed
       → (why : Stop) → IsHalted spec opening first.log first.histories course.before.taken course.after.taken course.written why
       → HasStoppedFirst (stop_status why) spec course
   stopped_first first opening failed only kept why halted = record {
@@ -98,7 +98,7 @@ left_by_first spec store shards known_rows run before short many = record {
   opening_is = refl;
   short = subst (λ (n : ℕ). length store.ledger.log ≤ n) run.cap_is short;
   as_many = many;
-  legal = legal_of (hub_terms (work_shape spec) None) (work_shape spec) shards (λ place. refl) run.all run.legal;
+  legal = legal_of (hub_terms (work_shape spec) false) (work_shape spec) shards (λ place. refl) run.all run.legal;
   fresh = λ some. run.fresh (before some);
   covered = run.covered;
 }

@@ -36,7 +36,7 @@ use Rattle.top_run.specs.declared.serves.ColdCause.{ColdCause}
 use Rattle.top_run.specs.declared.serves.Ready.{Ready}
 use Rattle.top_run.specs.Begins.{AreFilledWith, StopsFilling}
 use Rattle.top_run.specs.Ready.{AreParts, MakeHub}
-use Rattle.top_run.specs.Serves.{serve_keep, serve_shape}
+use Rattle.top_run.specs.Serves.{serve_rolls, serve_shape}
 use Rattle.top_run.specs.Warming.{AreToServe, AsksOn, CanLoad, IsAnew, IsEmptyFor, IsLoadedWith, IsServeReadyAnew, KeepsOn, NamesAnew, before_of}
 use Rattle.top_run.specs.Works.{hub_terms}
 use Rattle.top_run.proofs.BeginLemmas.{count_grows, filled_more, filled_none, stops_all}
@@ -128,13 +128,13 @@ loaded_still known_rows later opening now rows old new same tells h = record {
 
 -- a new shard with the terms of its place
 pub record IsEmptyAt (spec : ServeSpec) (place : ℕ) (shard : ShardView) : Type 0 where
-  pub terms_are : shard.terms ≡ hub_terms (serve_shape spec) serve_keep place
+  pub terms_are : shard.terms ≡ hub_terms (serve_shape spec) serve_rolls place
   pub new : shard.history ≡ []
   pub none_out : shard.out ≡ []
 
 -- a filled one
 pub record IsFilledAt (spec : ServeSpec) (known_rows : Option Tables) (opening : Tables) (place : ℕ) (shard : ShardView) : Type 0 where
-  pub terms_are : shard.terms ≡ hub_terms (serve_shape spec) serve_keep place
+  pub terms_are : shard.terms ≡ hub_terms (serve_shape spec) serve_rolls place
   pub old : ShardView
   pub rows : List DumpRow
   pub loaded : IsLoadedWith known_rows opening rows old shard
@@ -158,7 +158,7 @@ at_place P shards place shard all is =
 
 -- none is at first
 pub none_filled : (spec : ServeSpec) (known_rows : Option Tables) (opening : Tables) (empty filled : List ShardView) (dumps : List Dump)
-    → filled ≡ [] → AreAll (hub_terms (serve_shape spec) serve_keep) empty → length empty ≡ spec.shards → All (λ shard. shard.history ≡ []) empty
+    → filled ≡ [] → AreAll (hub_terms (serve_shape spec) serve_rolls) empty → length empty ≡ spec.shards → All (λ shard. shard.history ≡ []) empty
     → All (λ shard. shard.out ≡ []) empty → AreDumps spec.shards dumps → AreFilling spec known_rows opening dumps empty filled dumps 0
 none_filled spec known_rows opening empty filled dumps none all many new none_out are =
     subst (λ (l : List ShardView). AreFilling spec known_rows opening dumps empty l dumps 0) (sym none) (record {
@@ -171,8 +171,8 @@ none_filled spec known_rows opening empty filled dumps none all many new none_ou
       done = λ place shard at. absurd cc;
       left = λ place shard at.
           subst (λ n. IsEmptyAt spec n shard) (omega arith) (record {
-            terms_are = at_place (IsNamed (hub_terms (serve_shape spec) serve_keep)) empty place shard all.named at
-                ∙ ap (hub_terms (serve_shape spec) serve_keep) (all.placed place shard at);
+            terms_are = at_place (IsNamed (hub_terms (serve_shape spec) serve_rolls)) empty place shard all.named at
+                ∙ ap (hub_terms (serve_shape spec) serve_rolls) (all.placed place shard at);
             new = at_place (λ (s : ShardView). s.history ≡ []) empty place shard new at;
             none_out = at_place (λ (s : ShardView). s.out ≡ []) empty place shard none_out at;
           });
@@ -253,9 +253,9 @@ one_filled spec before after given (one ∷ later) rest filled (text ∷ texts) 
           loaded = loaded_still before.known_rows after.known_rows before.ledger.opening after.ledger.opening h.rows h.old s asks.opening_is asks.tells h.loaded;
         }
     by place s (inr here) =
-        let terms : new.terms ≡ hub_terms (serve_shape spec) serve_keep (length filled) =
+        let terms : new.terms ≡ hub_terms (serve_shape spec) serve_rolls (length filled) =
         now.terms_are ∙ ap (λ (x : ShardView). x.terms) first ∙ (was.left 0 one refl).terms_are
-        ∙ ap (hub_terms (serve_shape spec) serve_keep) (omega arith) in
+        ∙ ap (hub_terms (serve_shape spec) serve_rolls) (omega arith) in
         subst (λ n. IsFilledAt spec after.known_rows after.ledger.opening n s) (sym here.0)
         (subst (λ (x : ShardView). IsFilledAt spec after.known_rows after.ledger.opening (length filled) x) here.1
         (record { terms_are = terms; old = shard; rows = dump.rows; loaded = now }))
@@ -284,10 +284,10 @@ at_get shards place default below =
 -- where all are filled they can
 pub all_filled : (spec : ServeSpec) (known_rows : Option Tables) (opening : Tables) (given : List Dump) (empty filled : List ShardView) (dumps : List Dump) (count : ℕ)
     → length empty ≡ 0 → 1 ≤ spec.shards → AreFilling spec known_rows opening given empty filled dumps count
-    → AreToServe (hub_terms (serve_shape spec) serve_keep) known_rows opening filled
+    → AreToServe (hub_terms (serve_shape spec) serve_rolls) known_rows opening filled
 all_filled spec known_rows opening given empty filled dumps count none some are =
     let many = are.many in
-    let terms : ℕ → Terms = hub_terms (serve_shape spec) serve_keep in
+    let terms : ℕ → Terms = hub_terms (serve_shape spec) serve_rolls in
     record {
       all = record {
         some = omega (arith, some, many, none);
@@ -320,8 +320,8 @@ none_before shards new place = by (slice_get shards place) refl
         ∙ ap (λ (steps : List Step). reverse steps) (at_place (λ (s : ShardView). s.history ≡ []) shards place shard new here)
 
 pub new_to_serve : (spec : ServeSpec) (known_rows : Option Tables) (opening : Tables) (parts : Parts)
-    → AreParts (serve_shape spec) (hub_terms (serve_shape spec) serve_keep) parts
-    → AreToServe (hub_terms (serve_shape spec) serve_keep) known_rows opening parts.hub.shards.items
+    → AreParts (serve_shape spec) (hub_terms (serve_shape spec) serve_rolls) parts
+    → AreToServe (hub_terms (serve_shape spec) serve_rolls) known_rows opening parts.hub.shards.items
 new_to_serve spec known_rows opening parts are =
     let shards = parts.hub.shards.items in
     record {
@@ -368,13 +368,13 @@ to_serve_still terms before after shards asks h = record {
 pub make_serving : (spec : ServeSpec) (store : StoreView) (ready : Ready) (count start : Option ℕ) (terms : ℕ → Terms) (named_opening : Tables) (cap : ℕ)
     (named_rows : Option Tables) (name parts : ℕ) (word : WordView) (before : ℕ → List Step) (begun failed : ℕ) → spec.shards ≤ 64
     → IsServeReadyAnew spec store.known_rows store.ledger.opening ready
-    → NamesAnew (serve_shape spec) serve_keep store count start terms named_opening cap named_rows name parts word before begun failed ready.parts.hub
+    → NamesAnew (serve_shape spec) serve_rolls store count start terms named_opening cap named_rows name parts word before begun failed ready.parts.hub
     → MakeHub terms named_opening before (is_none store.known_rows) name parts word ready.parts.hub
 make_serving spec store ready count start terms named_opening cap named_rows name parts word before begun failed few is_ready names =
     let shards = ready.parts.hub.shards.items in
     let many = is_ready.as_many in
     record {
-      all = all_alike (hub_terms (serve_shape spec) serve_keep) terms shards (λ place. sym (names.terms_are place)) is_ready.shards.all;
+      all = all_alike (hub_terms (serve_shape spec) serve_rolls) terms shards (λ place. sym (names.terms_are place)) is_ready.shards.all;
       new = subst (λ (t : Tables). All (IsNewShard t before (is_none store.known_rows)) shards) names.opening_is
           (is_ready.shards.new before names.before_is);
       few = omega (arith, many, few);

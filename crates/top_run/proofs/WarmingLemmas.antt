@@ -490,10 +490,10 @@ to_load_all spec store shards dumps known_rows opening run are tells anew = reco
       let there = unmapped (λ (s : ShardView). s.history) (slice_get shards place) history
       (sym (slice_get-map (λ (s : ShardView). s.history) shards place) ∙ at) in
       let shard = there.0 in
-      let terms = hub_terms (work_shape spec) None place in
+      let terms = hub_terms (work_shape spec) false place in
       let same : shard.terms ≡ terms =
-      at_place (IsNamed (hub_terms (work_shape spec) None)) shards place shard run.all.named there.1
-      ∙ ap (hub_terms (work_shape spec) None) (run.all.placed place shard there.1) in
+      at_place (IsNamed (hub_terms (work_shape spec) false)) shards place shard run.all.named there.1
+      ∙ ap (hub_terms (work_shape spec) false) (run.all.placed place shard there.1) in
       subst (λ (steps : List Step). IsToLoad terms store.ledger.log steps known_rows opening dumped.dump.rows) there.2
       (to_load terms store.ledger.log shard dumped store.known_rows known_rows store.ledger.opening opening same (omega arith)
       (at_place (λ (s : ShardView). Legal s.terms s.history) shards place shard run.legal there.1)

@@ -38,21 +38,21 @@ at_place P shards place shard all is =
     subst P (get_or_from_slice_get shards place shard shard is) (All-get_or P shards place shard (slice_get_within shards place shard is) all)
 
 -- shards in their places have the terms of their places
-terms_at_place : (terms : ℕ → Terms) (shape : Shape) (keep : Option ℕ) (shards : List ShardView) → ((place : ℕ) → terms place ≡ hub_terms shape keep place)
-    → AreAll terms shards → (place : ℕ) (shard : ShardView) → slice_get shards place ≡ Some shard → shard.terms ≡ hub_terms shape keep place
-terms_at_place terms shape keep shards are all place shard is =
+terms_at_place : (terms : ℕ → Terms) (shape : Shape) (rolls : Bool) (shards : List ShardView) → ((place : ℕ) → terms place ≡ hub_terms shape rolls place)
+    → AreAll terms shards → (place : ℕ) (shard : ShardView) → slice_get shards place ≡ Some shard → shard.terms ≡ hub_terms shape rolls place
+terms_at_place terms shape rolls shards are all place shard is =
     at_place (IsNamed terms) shards place shard all.named is ∙ ap terms (all.placed place shard is) ∙ are place
 
 -- where the terms are those of whole shards, they are whole
-pub whole_of : (terms : ℕ → Terms) (shape : Shape) (shards : List ShardView) → ((place : ℕ) → terms place ≡ hub_terms shape None place)
+pub whole_of : (terms : ℕ → Terms) (shape : Shape) (shards : List ShardView) → ((place : ℕ) → terms place ≡ hub_terms shape false place)
     → AreAll terms shards → AreWhole shards
 whole_of terms shape shards are all = λ place default below.
-    ap (λ (t : Terms). t.keep) (all.named place default below ∙ are (get_or shards place default).terms.no)
+    ap (λ (t : Terms). t.rolls) (all.named place default below ∙ are (get_or shards place default).terms.no)
 
 -- and so is each of them
 pub whole_at : (shards : List ShardView) (i : ℕ) (shard : ShardView) → i < length shards → shard ≡ get_or shards i shard
-    → AreWhole shards → shard.terms.keep ≡ None
-whole_at shards i shard within is whole = ap (λ (s : ShardView). s.terms.keep) is ∙ whole i shard within
+    → AreWhole shards → shard.terms.rolls ≡ false
+whole_at shards i shard within is whole = ap (λ (s : ShardView). s.terms.rolls) is ∙ whole i shard within
 
 -- so they can be audited
 pub numbered_of : (terms : ℕ → Terms) (shards : List ShardView) → AreAll terms shards → length shards ≤ 64 → AreNumbered shards
@@ -71,34 +71,34 @@ unmapped f None steps is = absurd (false≢true (ap (λ (o : Option (List Step))
 unmapped f (Some shard) steps is = (shard, refl, ap (λ (o : Option (List Step)). unwrap_or o steps) is)
 
 -- a shard whose history is legal has the terms of its place
-legal_at : (terms : ℕ → Terms) (shape : Shape) (keep : Option ℕ) (shards : List ShardView) → ((place : ℕ) → terms place ≡ hub_terms shape keep place)
+legal_at : (terms : ℕ → Terms) (shape : Shape) (rolls : Bool) (shards : List ShardView) → ((place : ℕ) → terms place ≡ hub_terms shape rolls place)
     → AreAll terms shards → AreLegal shards → (place : ℕ) (shard : ShardView) → slice_get shards place ≡ Some shard
-    → Legal (hub_terms shape keep place) shard.history
-legal_at terms shape keep shards are all legal place shard is =
-    subst (λ (t : Terms). Legal t shard.history) (terms_at_place terms shape keep shards are all place shard is)
+    → Legal (hub_terms shape rolls place) shard.history
+legal_at terms shape rolls shards are all legal place shard is =
+    subst (λ (t : Terms). Legal t shard.history) (terms_at_place terms shape rolls shards are all place shard is)
     (at_place (λ (s : ShardView). Legal s.terms s.history) shards place shard legal is)
 
 -- and the histories of whole shards are legal
-pub legal_of : (terms : ℕ → Terms) (shape : Shape) (shards : List ShardView) → ((place : ℕ) → terms place ≡ hub_terms shape None place)
+pub legal_of : (terms : ℕ → Terms) (shape : Shape) (shards : List ShardView) → ((place : ℕ) → terms place ≡ hub_terms shape false place)
     → AreAll terms shards → AreLegal shards
-    → (place : ℕ) (history : List Step) → slice_get (histories_in shards) place ≡ Some history → IsLeft shape None place history
+    → (place : ℕ) (history : List Step) → slice_get (histories_in shards) place ≡ Some history → IsLeft shape false place history
 legal_of terms shape shards are all legal place history is =
     let there = unmapped (λ (s : ShardView). s.history) (slice_get shards place) history (sym (slice_get-map (λ (s : ShardView). s.history) shards place) ∙ is) in
-    subst (λ (h : List Step). Legal (hub_terms shape None place) h) there.2 (legal_at terms shape None shards are all legal place there.0 there.1)
+    subst (λ (h : List Step). Legal (hub_terms shape false place) h) there.2 (legal_at terms shape false shards are all legal place there.0 there.1)
 
 -- and the steps that shards have in memory are the last of a legal history
-pub last_of : (terms : ℕ → Terms) (shape : Shape) (keep : ℕ) (shards : List ShardView) → ((place : ℕ) → terms place ≡ hub_terms shape (Some keep) place)
+pub last_of : (terms : ℕ → Terms) (shape : Shape) (rolls : Bool) (shards : List ShardView) → ((place : ℕ) → terms place ≡ hub_terms shape true place)
     → AreAll terms shards → AreLegal shards
-    → (place : ℕ) (steps : List Step) → slice_get (kept_in shards) place ≡ Some steps → IsLeft shape (Some keep) place steps
-last_of terms shape keep shards are all legal place steps is =
+    → (place : ℕ) (steps : List Step) → slice_get (kept_in shards) place ≡ Some steps → IsLeft shape true place steps
+last_of terms shape rolls shards are all legal place steps is =
     let there = unmapped kept_of (slice_get shards place) steps (sym (slice_get-map kept_of shards place) ∙ is) in
     let shard = there.0 in
     let parts : take shard.gone shard.history ++ steps ≡ shard.history =
     ap (λ (l : List Step). take shard.gone shard.history ++ l) (sym there.2) ∙ take-append-drop shard.gone shard.history in
     record {
       given_up = take shard.gone shard.history;
-      legal = subst (λ (h : List Step). Legal (hub_terms shape (Some keep) place) h) (sym parts)
-          (legal_at terms shape (Some keep) shards are all legal place shard there.1);
+      legal = subst (λ (h : List Step). Legal (hub_terms shape true place) h) (sym parts)
+          (legal_at terms shape true shards are all legal place shard there.1);
     }
 
 -- ---- the least shard that is spent
@@ -139,15 +139,15 @@ same_of_none start failed faults is since = since.none (grind (arith, is))
 abbrev pub left_of : StoreView → List (List Step) → Left
 left_of store histories = record { opening = Some store.ledger.opening; log = store.ledger.log; histories = histories }
 
-pub is_kept : (shape : Shape) (keep : Option ℕ) (held : Held) (before after : Tells) (store : StoreView) (histories : List (List Step)) (start : Option ℕ)
+pub is_kept : (shape : Shape) (rolls : Bool) (held : Held) (before after : Tells) (store : StoreView) (histories : List (List Step)) (start : Option ℕ)
     → after.rows ≡ store.known_rows → after.keeps_failed ≡ store.faults → start ≡ Some before.keeps_failed
     → length store.ledger.log ≤ store.ledger.cap → store.ledger.cap ≡ log_cap
     → ForSome store.known_rows (λ known. known ≡ rows_of store.ledger) → FailedSince start store.ledger.failed store.faults
-    → ((place : ℕ) (steps : List Step) → slice_get histories place ≡ Some steps → IsLeft shape keep place steps) → length histories ≡ shape.shards
+    → ((place : ℕ) (steps : List Step) → slice_get histories place ≡ Some steps → IsLeft shape rolls place steps) → length histories ≡ shape.shards
     → IsOpened held shape store.ledger.opening after.rows
-    → (keep ≡ None → IsSome store.known_rows → Fresh store.ledger.opening store.ledger.log histories) → (keep ≡ None → Covered store.ledger.log histories)
-    → IsKept shape keep held before after (left_of store histories) store.ledger.opening store.ledger.failed
-is_kept shape keep held before after store histories start rows count starts short cap same since legal many opened fresh covered = record {
+    → (rolls ≡ false → IsSome store.known_rows → Fresh store.ledger.opening store.ledger.log histories) → (rolls ≡ false → Covered store.ledger.log histories)
+    → IsKept shape rolls held before after (left_of store histories) store.ledger.opening store.ledger.failed
+is_kept shape rolls held before after store histories start rows count starts short cap same since legal many opened fresh covered = record {
   opening_is = refl;
   opened = opened;
   short = subst (λ (n : ℕ). length store.ledger.log ≤ n) cap short;
@@ -160,7 +160,7 @@ is_kept shape keep held before after store histories start rows count starts sho
 }
 
 module _ (spec : WorkSpec) (held : Held) (before after : Tells)
-    (left : Left) (written : ℕ) (opening : Tables) (failed : ℕ) (kept : IsKept (work_shape spec) None held before after left opening failed) where
+    (left : Left) (written : ℕ) (opening : Tables) (failed : ℕ) (kept : IsKept (work_shape spec) false held before after left opening failed) where
   same_status : (b : Bool) (spent : Option ℕ) → nat_lt 0 failed ≡ b → first_spent left.histories ≡ spent
       → work_status b spent ≡ work_status (nat_lt 0 failed) (first_spent left.histories)
   same_status b spent is first =

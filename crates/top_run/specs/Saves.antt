@@ -20,7 +20,7 @@ use Rattle.top_run.specs.declared.runs.Status.{Status}
 use Rattle.top_run.specs.declared.runs.Status.TheVariants as status
 use Rattle.top_run.specs.Begins.{Files}
 use Rattle.top_run.specs.Runs.{Left}
-use Rattle.top_run.specs.Serves.{serve_shape, serve_keep}
+use Rattle.top_run.specs.Serves.{serve_shape, serve_rolls}
 use Rattle.top_run.specs.Warms.{rows_in}
 use Rattle.top_run.specs.Works.{hub_terms}
 
@@ -40,7 +40,7 @@ pub record IsSavedText (spec : ServeSpec) (rows : Option Tables) (left : Left) (
   pub are_dumps : AreDumps spec.shards dumps
   pub text_is : text ≡ cache_text (map dump_text dumps)
   pub each : (place : ℕ) (steps : List Step) (dump : Dump) → slice_get left.histories place ≡ Some steps → slice_get dumps place ≡ Some dump
-      → IsDumpedOf (hub_terms (serve_shape spec) serve_keep place) rows opening left.log steps dump
+      → IsDumpedOf (hub_terms (serve_shape spec) serve_rolls place) rows opening left.log steps dump
 
 -- The text is that of a cache's file, with the dumps of these shards beside this log.
 pub record IsCacheOf (log : List Commit) (shards : List ShardView) (text : List ℕ) : Type 0 where

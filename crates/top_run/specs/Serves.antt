@@ -1,5 +1,5 @@
 -- What a server prints and keeps, and how its lines ended.
-use Rattle.std.specs.Prelude.{ℕ, ◌≡◌, ◌≢◌, ◌-◌, ◌^◌, ◌≤◌, ◌⊎◌, min, List, [], ◌∷◌, ◌++◌, map, false, Option, Some, None, IfSome, codes, decimal, Vec}
+use Rattle.std.specs.Prelude.{ℕ, ◌≡◌, ◌≢◌, ◌-◌, ◌^◌, ◌≤◌, ◌⊎◌, min, List, [], ◌∷◌, ◌++◌, map, Bool, true, false, Option, Some, None, IfSome, codes, decimal, Vec}
 use Rattle.std.specs.Global.{Global}
 use Rattle.iq_outside.specs.declared.sinks.Sink.{Ghosts as Sinks}
 use Rattle.iq_outside.specs.Outside.{Rose}
@@ -28,9 +28,9 @@ use Rattle.top_run.specs.Works.{IsKept}
 abbrev pub serve_shape : ServeSpec → Shape
 serve_shape spec = record { members = spec.members; shards = spec.shards; room = 4096; life = 10000 }
 
--- A server's shards roll: each gives up its steps in memory where they are 256.
-abbrev pub serve_keep : Option ℕ
-serve_keep = Some 256
+-- A server's shards roll: each gives up its steps as they come.
+abbrev pub serve_rolls : Bool
+serve_rolls = true
 
 -- The line that is written once the door is bound.
 unfoldable pub ready_line : List ℕ
@@ -168,7 +168,7 @@ pub record IsServed (spec : ServeSpec) (ended : Status) (course : Course) : Type
   pub begins : BeginsBy spec.warm begun
   pub begins_as : BeginsAs spec.warm spec.shards (beginning_in course opening failed) begun
   pub fail_only_told : FailOnlyTold begun ended course.files_before course.files_after
-  pub kept : IsKept (serve_shape spec) serve_keep course.held course.before course.after course.left opening failed
+  pub kept : IsKept (serve_shape spec) serve_rolls course.held course.before course.after course.left opening failed
   pub attended : IsAttended spec begun ended course.before.taken course.after.taken
       course.door_before course.door_after course.ends course.written
 

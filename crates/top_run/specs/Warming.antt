@@ -51,7 +51,7 @@ use Rattle.run_words.specs.Words.{most_served}
 use Rattle.bound_hub.specs.Ties.{IsNewShard}
 use Rattle.top_run.specs.Ready.{IsNewWord}
 use Rattle.top_run.specs.Runs.{Left, Prints}
-use Rattle.top_run.specs.Serves.{BeginsBy, phase_left, serve_keep, serve_shape}
+use Rattle.top_run.specs.Serves.{BeginsBy, phase_left, serve_rolls, serve_shape}
 use Rattle.top_run.specs.Works.{work_shape, hub_terms, first_spent, AreUnspent, HaveSessions, IsSummary}
 use Rattle.top_run.specs.Warms.{dump_lines, first_of, rows_in}
 
@@ -216,7 +216,7 @@ left_by store shards = record { opening = Some store.ledger.opening; log = store
 -- A load was run over a store and whole shards. Each history is legal, each commit is covered. Where the keeper tells its rows, each hit
 -- is fresh, and each entry that no later commit touches is right on the rows after the log.
 pub record HasRunLoad (spec : WorkSpec) (store : StoreView) (shards : List ShardView) : Type 0 where
-  pub all : AreAll (hub_terms (work_shape spec) None) shards
+  pub all : AreAll (hub_terms (work_shape spec) false) shards
   pub as_many : length shards ≡ spec.shards
   pub legal : AreLegal shards
   pub cap_is : store.ledger.cap ≡ log_cap
@@ -263,7 +263,7 @@ pub record AreToLoad (spec : WorkSpec) (left : Left) (known_rows : Option Tables
   pub as_many : length dumps ≡ spec.shards
   pub histories : length left.histories ≡ spec.shards
   pub each : (place : ℕ) (history : List Step) (dumped : Dumped) → slice_get left.histories place ≡ Some history → slice_get dumps place ≡ Some dumped
-      → IsToLoad (hub_terms (work_shape spec) None place) left.log history known_rows opening dumped.dump.rows
+      → IsToLoad (hub_terms (work_shape spec) false place) left.log history known_rows opening dumped.dump.rows
 
 -- The rows that are dumped of each shard of a load that left this.
 abbrev pub rows_left : Left → List (List DumpRow)
@@ -279,7 +279,7 @@ pub record IsReadyAnew (spec : WorkSpec) (known_rows : Option Tables) (opening :
   pub rows_are : map (λ (dumped : Dumped). dumped.dump.rows) dumps ≡ rows
   pub olds : List ShardView
   pub many : length dumps ≡ length olds
-  pub all : AreAll (hub_terms (work_shape spec) None) olds
+  pub all : AreAll (hub_terms (work_shape spec) false) olds
   pub as_many : length olds ≡ spec.shards
   pub loaded : AreLoaded known_rows opening dumps olds ready.parts.hub.shards.items
   pub one_each : ready.parts.hub.ledger.parts ≡ spec.shards
@@ -316,7 +316,7 @@ pub record AreToServe (terms : ℕ → Terms) (known_rows : Option Tables) (open
 
 -- There are the shards of a server's hub, new or with what was taken over, beside this store, and room for what it leaves.
 pub record IsServeReadyAnew (spec : ServeSpec) (known_rows : Option Tables) (opening : Tables) (ready : ServeReady) : Type 0 where
-  pub shards : AreToServe (hub_terms (serve_shape spec) serve_keep) known_rows opening ready.parts.hub.shards.items
+  pub shards : AreToServe (hub_terms (serve_shape spec) serve_rolls) known_rows opening ready.parts.hub.shards.items
   pub as_many : length ready.parts.hub.shards.items ≡ spec.shards
   pub one_each : ready.parts.hub.ledger.parts ≡ spec.shards
   pub word : IsNewWord spec.shards ready.parts.hub
@@ -328,9 +328,9 @@ pub record IsServeReadyAnew (spec : ServeSpec) (known_rows : Option Tables) (ope
 
 -- The name of a hub names what is run over it: the store as it was made anew, the ledger and the word, and the steps that the
 -- shards made.
-pub record NamesAnew (shape : Shape) (keep : Option ℕ) (store : StoreView) (count start : Option ℕ) (terms : ℕ → Terms) (opening : Tables) (cap : ℕ)
+pub record NamesAnew (shape : Shape) (rolls : Bool) (store : StoreView) (count start : Option ℕ) (terms : ℕ → Terms) (opening : Tables) (cap : ℕ)
     (known_rows : Option Tables) (name parts : ℕ) (word : WordView) (before : ℕ → List Step) (begun failed : ℕ) (made : HubParts) : Type 0 where
-  pub terms_are : (place : ℕ) → terms place ≡ hub_terms shape keep place
+  pub terms_are : (place : ℕ) → terms place ≡ hub_terms shape rolls place
   pub opening_is : store.ledger.opening ≡ opening
   pub cap_is : cap ≡ log_cap
   pub told_is : known_rows ≡ store.known_rows

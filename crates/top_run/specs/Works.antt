@@ -41,8 +41,8 @@ abbrev pub work_shape : WorkSpec → Shape
 work_shape spec = record { members = spec.members; shards = spec.shards; room = 1024; life = 10000 }
 
 -- What the shard of this number is made with in a run over a hub of this shape: it is whole, or it rolls.
-abbrev pub hub_terms : Shape → Option ℕ → ℕ → Terms
-hub_terms shape keep = terms_at shape.shards shape.room shape.life keep
+abbrev pub hub_terms : Shape → Bool → ℕ → Terms
+hub_terms shape rolls = terms_at shape.shards shape.room shape.life rolls
 
 -- Steps that are counted, beside hits, stored values and Agains.
 abbrev pub is_void : Step → Bool
@@ -114,9 +114,9 @@ at_write_failed (Err stop.WriteFault) = true
 at_write_failed (Err stop.Memory) = false
 
 -- The name of a hub names what it is made with: a shard's terms, by which it is whole or rolls, and the store as it was handed in.
-pub record IsNameOf (shape : Shape) (keep : Option ℕ) (store : StoreView) (terms : ℕ → Terms)
+pub record IsNameOf (shape : Shape) (rolls : Bool) (store : StoreView) (terms : ℕ → Terms)
     (opening : Tables) (cap : ℕ) (known_rows : Option Tables) (start : Option ℕ) : Type 0 where
-  pub terms_are : (place : ℕ) → terms place ≡ hub_terms shape keep place
+  pub terms_are : (place : ℕ) → terms place ≡ hub_terms shape rolls place
   pub opening_is : store.ledger.opening ≡ opening
   pub cap_is : cap ≡ log_cap
   pub told_is : known_rows ≡ store.known_rows
@@ -210,32 +210,32 @@ pub record AreLast (terms : Terms) (steps : List Step) : Type 0 where
   pub given_up : List Step
   pub legal : Legal terms (given_up ++ steps)
 
--- What the shard of this number leaves: where it is whole a legal history, and where it rolls the last steps of one.
-abbrev pub IsLeft : Shape → Option ℕ → ℕ → List Step → Type 0
-IsLeft shape None place steps = Legal (terms_of shape place) steps
-IsLeft shape (Some keep) place steps = AreLast (hub_terms shape (Some keep) place) steps
+-- What the shard of this number leaves: where it is whole a legal history, and where it rolls the last steps of one, which may be none.
+abbrev pub IsLeft : Shape → Bool → ℕ → List Step → Type 0
+IsLeft shape false place steps = Legal (terms_of shape place) steps
+IsLeft shape true place steps = AreLast (hub_terms shape true place) steps
 
 -- What a run over a hub that began leaves: the rows that it began with, which are those of the place, a log that isn't too long,
 -- and of each shard a legal history, or where the shards roll the last steps of one. Where the keeper tells its rows, they are
 -- the opening rows after the log. So many of the keeper's calls failed since its count of faults was as before the run. Of whole
 -- shards each commit is covered, and each hit is fresh where the keeper tells its rows.
-pub record IsKept (shape : Shape) (keep : Option ℕ) (held : Held) (before after : Tells) (left : Left) (opening : Tables) (failed : ℕ) : Type 0 where
+pub record IsKept (shape : Shape) (rolls : Bool) (held : Held) (before after : Tells) (left : Left) (opening : Tables) (failed : ℕ) : Type 0 where
   pub opening_is : left.opening ≡ Some opening
   pub opened : IsOpened held shape opening after.rows
   pub short : length left.log ≤ log_cap
   pub rows_are : ForSome after.rows (λ known. known ≡ rows_after opening left.log)
   pub as_many : length left.histories ≡ shape.shards
-  pub legal : (place : ℕ) (history : List Step) → slice_get left.histories place ≡ Some history → IsLeft shape keep place history
+  pub legal : (place : ℕ) (history : List Step) → slice_get left.histories place ≡ Some history → IsLeft shape rolls place history
   pub since : HaveFailed before.keeps_failed failed after.keeps_failed
-  pub fresh : keep ≡ None → IsSome after.rows → Fresh opening left.log left.histories
-  pub covered : keep ≡ None → Covered left.log left.histories
+  pub fresh : rolls ≡ false → IsSome after.rows → Fresh opening left.log left.histories
+  pub covered : rolls ≡ false → Covered left.log left.histories
 
 -- A run ended with its summary written. Its status is that of what it keeps. Unless
 -- it is a store fault, no call of the keeper failed and its count of faults is as before.
 pub record IsSummed (spec : WorkSpec) (held : Held) (before after : Tells) (left : Left) (written : ℕ) (ended : Status) : Type 0 where
   pub opening : Tables
   pub failed : ℕ
-  pub kept : IsKept (work_shape spec) None held before after left opening failed
+  pub kept : IsKept (work_shape spec) false held before after left opening failed
   pub found : Finding
   pub summary_is : IsSummarized spec opening left.log left.histories before.taken after.taken written found
   pub ends : ended ≡ work_status (nat_lt 0 failed) (first_spent left.histories)
@@ -245,14 +245,14 @@ pub record IsSummed (spec : WorkSpec) (held : Held) (before after : Tells) (left
 pub record IsCutShort (spec : WorkSpec) (held : Held) (before after : Tells) (left : Left) (written : ℕ) : Type 0 where
   pub opening : Tables
   pub failed : ℕ
-  pub kept : IsKept (work_shape spec) None held before after left opening failed
+  pub kept : IsKept (work_shape spec) false held before after left opening failed
   pub cut : IsCut spec opening left.log left.histories before.taken after.taken written
 
 -- A run that began stopped for want of memory: nothing is written.
 pub record IsStoppedShort (spec : WorkSpec) (held : Held) (before after : Tells) (left : Left) (written : ℕ) : Type 0 where
   pub opening : Tables
   pub failed : ℕ
-  pub kept : IsKept (work_shape spec) None held before after left opening failed
+  pub kept : IsKept (work_shape spec) false held before after left opening failed
   pub prints : Prints before.taken after.taken [] written
 
 -- What is so at an end of a load's run.

@@ -48,16 +48,15 @@ pub(crate) struct Parts {
 }
 
 /// The parts of a new hub of this shape, whose shards are whole or roll.
-pub(crate) fn parts_for(alloc: Global, shape: &Shape, keep: Option<u32>) -> Result<Parts, Memory>
+pub(crate) fn parts_for(alloc: Global, shape: &Shape, rolls: bool) -> Result<Parts, Memory>
     requires some { 1 ≤ shape.now.shards }
     requires few { shape.now.shards ≤ 64 }
     requires roomy { 1 ≤ shape.now.room }
     requires lively { 1 ≤ shape.now.life }
-    requires keeps { IfSome keep (λ steps. 1 ≤ steps) }
-    ensures { IfOk result (AreParts shape.now (hub_terms shape.now keep)) }
+    ensures { IfOk result (AreParts shape.now (hub_terms shape.now rolls)) }
 {
     let hub = HubParts {
-        shards: new_shards(alloc, shape.shards, shape.room, shape.life, keep)?,
+        shards: new_shards(alloc, shape.shards, shape.room, shape.life, rolls)?,
         ledger: Blank::new(shape.shards as u64),
         word: LogWord::new(alloc, shape.shards)?,
     };

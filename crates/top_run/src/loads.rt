@@ -29,7 +29,7 @@ pub(crate) fn loaded<K: Keeper, N: Start>(
     requires now { now < 2 ^ 64 - 1 }
     requires log { store.old.ledger.log ≡ [] }
     requires work { IsWork spec.now }
-    requires ready { IsReady spec.now (hub_terms (work_shape spec.now) None) ready }
+    requires ready { IsReady spec.now (hub_terms (work_shape spec.now) false) ready }
     requires can { CanLoadAll store.old.known_rows store.old.ledger.opening dumps.items
         ready.parts.hub.shards.items }
     ensures ready { IfOk result (IsReadyAnew spec.now store.new.known_rows store.new.ledger.opening

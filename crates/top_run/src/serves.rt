@@ -12,7 +12,7 @@ ghost use Rattle.top_run.specs.Ready.{IsServeReady, MakeHub, NamesParts};
 ghost use Rattle.top_run.specs.Runs.{Held, Input, Prints, moment, seen, held_at, IsOpened, RoseWhere, CountsWhere, left_at, is_read_fault, is_write_fault, is_door_fault, is_file_fault};
 ghost use Rattle.top_run.specs.Begins.{FilesSeen, HasBegun, beginning_of, files_seen};
 ghost use Rattle.top_run.specs.Saves.{SavesAt};
-ghost use Rattle.top_run.specs.Serves.{serve_shape, serve_keep, begun_line, cold_words, ready_text, served_line, BeginsBy, IsServedText, HasServed, course_of, ServeEnded};
+ghost use Rattle.top_run.specs.Serves.{serve_shape, serve_rolls, begun_line, cold_words, ready_text, served_line, BeginsBy, IsServedText, HasServed, course_of, ServeEnded};
 ghost use Rattle.top_run.specs.Warming.{AreRight, IsAnew, IsServeReadyAnew, NamesAnew};
 ghost use Rattle.run_words.specs.Words.{IsServe, most_served};
 ghost use Rattle.door_workers.specs.Attending.{seen_at};
@@ -50,9 +50,6 @@ use std::thread::Threads;
 
 /// How many entries a shard of a server has room for.
 pub(crate) const ROOM: u32 = 4096;
-
-/// At how many steps in memory a server's shard gives them up.
-pub(crate) const KEEP: u32 = 256;
 
 /// How a server's cache begins.
 #[derive(Clone, Copy)]
@@ -179,11 +176,11 @@ struct Ready {
 
 fn ready_for(alloc: Global, spec: &ServeSpec) -> Result<Ready, Memory>
     requires { IsServe spec.now }
-    ensures { IfOk result (IsServeReady spec.now (hub_terms (serve_shape spec.now) serve_keep)) }
+    ensures { IfOk result (IsServeReady spec.now (hub_terms (serve_shape spec.now) serve_rolls)) }
 {
     let most = spec.conns.most().unwrap_or(0);
     Ok(Ready {
-        parts: parts_for(alloc, &shape_of(spec), Some(KEEP))?,
+        parts: parts_for(alloc, &shape_of(spec), true)?,
         ends: Vec::with_capacity(alloc, most as usize)?,
         begun: Begun::New,
     })
@@ -223,7 +220,7 @@ fn serve_begun<
     requires start { N.count ≡ Some store.faults }
     requires new { store.ledger ≡ opened store.ledger.opening log_cap }
     requires ready { IsServeReady server.now.spec.now
-        (hub_terms (serve_shape server.now.spec.now) serve_keep) ready }
+        (hub_terms (serve_shape server.now.spec.now) serve_rolls) ready }
     ensures ended { (unread : Input) (rows : Option Tables) (held : Held) →
         IsOpened held (serve_shape server.now.spec.now) store.ledger.opening store.known_rows →
         let before = moment unread (W.taken sink.old) (W.faults sink.old) rows store.faults in
@@ -300,7 +297,7 @@ fn serve_store<
     requires anew { IsAnew store }
     requires ready { IsServeReadyAnew server.now.spec.now
         store.known_rows store.ledger.opening ready }
-    requires named { NamesAnew (serve_shape server.now.spec.now) serve_keep store N.count H.start
+    requires named { NamesAnew (serve_shape server.now.spec.now) serve_rolls store N.count H.start
         H.terms H.opening H.cap H.known_rows H.name H.parts H.word H.before H.begun H.failed
         ready.parts.hub }
     requires never_fell { ForSome N.count (λ start. start ≤ store.faults) }

@@ -5,13 +5,13 @@ ghost use Rattle.cache_file.specs.Texts.{AreDumps};
 ghost use Rattle.run_words.specs.Words.{IsServe};
 ghost use Rattle.top_run.specs.declared.serves.ColdCause.TheVariants as why;
 ghost use Rattle.top_run.specs.Begins.{AreFilledWith, HasBegun, HoldCache, HoldsAs, IsCold, IsTakenOver, StopsFilling, beginning_of, files_seen};
-ghost use Rattle.top_run.specs.Serves.{BeginsBy, serve_keep, serve_shape};
+ghost use Rattle.top_run.specs.Serves.{BeginsBy, serve_rolls, serve_shape};
 ghost use Rattle.top_run.specs.Warming.{AreToServe, AsksOn, IsEmptyFor, IsLoadedWith};
 ghost use Rattle.top_run.specs.Works.{hub_terms};
 
 use crate::hubs::LIFE;
 use crate::loads::load_one;
-use crate::serves::{Begun, ColdCause, KEEP, ROOM};
+use crate::serves::{Begun, ColdCause, ROOM};
 use cache_file::{CacheFault, CacheFile, read_cache};
 use iq_outside::ReadStop;
 use key_shard::Shard;
@@ -34,10 +34,10 @@ pub(crate) fn shards_begun<F: CacheFile, K: Keeper, N: Start>(
     requires serve { IsServe spec.now }
     requires now { now < 2 ^ 64 - 1 }
     requires log { store.old.ledger.log ≡ [] }
-    requires new { AreToServe (hub_terms (serve_shape spec.now) serve_keep)
+    requires new { AreToServe (hub_terms (serve_shape spec.now) serve_rolls)
         store.old.known_rows store.old.ledger.opening new.items }
     requires as_many { length new.items ≡ spec.now.shards }
-    ensures shards { AreToServe (hub_terms (serve_shape spec.now) serve_keep)
+    ensures shards { AreToServe (hub_terms (serve_shape spec.now) serve_rolls)
         store.new.known_rows store.new.ledger.opening result.0.items }
     ensures as_many { length result.0.items ≡ spec.now.shards }
     ensures begins { BeginsBy spec.now.warm result.1 }
@@ -70,7 +70,7 @@ fn shards_from<F: CacheFile, K: Keeper, N: Start>(
     requires serve { IsServe spec.now }
     requires now { now < 2 ^ 64 - 1 }
     requires log { store.old.ledger.log ≡ [] }
-    ensures shards { IfOk result (λ made. AreToServe (hub_terms (serve_shape spec.now) serve_keep)
+    ensures shards { IfOk result (λ made. AreToServe (hub_terms (serve_shape spec.now) serve_rolls)
         store.new.known_rows store.new.ledger.opening made.0.items) }
     ensures as_many { IfOk result (λ made. length made.0.items ≡ spec.now.shards) }
     ensures taken_over { IfOk result (λ made. IsTakenOver spec.now.shards
@@ -113,7 +113,7 @@ fn filled_shards<K: Keeper, N: Start>(
     requires now { now < 2 ^ 64 - 1 }
     requires log { store.old.ledger.log ≡ [] }
     requires dumps { AreDumps spec.now.shards dumps.items }
-    ensures shards { IfOk result (λ made. AreToServe (hub_terms (serve_shape spec.now) serve_keep)
+    ensures shards { IfOk result (λ made. AreToServe (hub_terms (serve_shape spec.now) serve_rolls)
         store.new.known_rows store.new.ledger.opening made.0.items) }
     ensures as_many { IfOk result (λ made. length made.0.items ≡ spec.now.shards) }
     ensures filled { IfOk result (λ made. AreFilledWith dumps.items
@@ -121,7 +121,7 @@ fn filled_shards<K: Keeper, N: Start>(
     ensures stopped { IfErr result (StopsFilling store.new dumps.items) }
     ensures asks_on { AsksOn store.old store.new }
 {
-    let Ok(mut empty) = new_shards(alloc, spec.shards, ROOM, LIFE, Some(KEEP)) else {
+    let Ok(mut empty) = new_shards(alloc, spec.shards, ROOM, LIFE, true) else {
         return Err(ColdCause::Memory);
     };
     let Ok(mut filled) = Vec::with_capacity(alloc, empty.len()) else {

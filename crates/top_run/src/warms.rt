@@ -126,7 +126,7 @@ fn run_first<
     earlier: Vec<Phase>,
 ) -> RunEnd<K>
     requires work { IsWork warming.now.spec.now }
-    requires named { IsNameOf (work_shape warming.now.spec.now) None
+    requires named { IsNameOf (work_shape warming.now.spec.now) false
         store H.terms H.opening H.cap H.known_rows H.start }
     requires new { store.ledger ≡ opened store.ledger.opening log_cap }
     requires ready { IsReady warming.now.spec.now H.terms ready }
@@ -331,7 +331,7 @@ fn run_second<
     requires never_fell { ForSome N.count (λ start. start ≤ half.store.faults) }
     requires ready { IsReadyAnew warming.now.spec.now half.store.known_rows
         half.store.ledger.opening (rows_left (left_in half.earlier.items)) ready }
-    requires named { NamesAnew (work_shape warming.now.spec.now) None half.store N.count H.start
+    requires named { NamesAnew (work_shape warming.now.spec.now) false half.store N.count H.start
         H.terms H.opening H.cap H.known_rows H.name H.parts H.word H.before H.begun H.failed
         ready.parts.hub }
     ensures ended { (unread : Input) (door : DoorSeen) (files : FilesSeen)

@@ -97,11 +97,11 @@ pub(crate) struct Ready {
 /// What a load of these numbers is run with. Its hub has no step yet.
 pub(crate) fn ready_for(alloc: Global, spec: &WorkSpec) -> Result<Ready, Memory>
     requires { IsWork spec.now }
-    ensures { IfOk result (IsReady spec.now (hub_terms (work_shape spec.now) None)) }
+    ensures { IfOk result (IsReady spec.now (hub_terms (work_shape spec.now) false)) }
 {
     Ok(Ready {
         plans: make_plans(alloc, spec)?,
-        parts: parts_for(alloc, &shape_of(spec), None)?,
+        parts: parts_for(alloc, &shape_of(spec), false)?,
     })
 }
 
@@ -136,7 +136,7 @@ fn work_on<
     gate: &G,
 ) -> RunEnd<K>
     requires work { IsWork spec.now }
-    requires named { IsNameOf (work_shape spec.now) None
+    requires named { IsNameOf (work_shape spec.now) false
         store H.terms H.opening H.cap H.known_rows H.start }
     requires new { store.ledger ≡ opened store.ledger.opening log_cap }
     requires ready { IsReady spec.now H.terms ready }

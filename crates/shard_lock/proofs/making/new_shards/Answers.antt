@@ -12,10 +12,10 @@ loop-no-preserved c =
     let new = c.in_ok-new_shard.field-0 in
     let all : (P : ShardView → Type 0) → All P shards → P new → All P (shards ++ new ∷ []) = λ P before here.
     All-append P shards (new ∷ []) before (All-cons P new [] here (All-nil P)) in
-    let named : IsNamed (terms_at c.args.count c.args.room c.args.life c.args.keep) new =
+    let named : IsNamed (terms_at c.args.count c.args.room c.args.life c.args.rolls) new =
     let is = c.in_ok-new_shard.ensures.terms in
-    is ∙ ap (terms_at c.args.count c.args.room c.args.life c.args.keep) (sym (ap (λ (t : Terms). t.no) is)) in
-    let Named : ShardView → Type 0 = IsNamed (terms_at c.args.count c.args.room c.args.life c.args.keep) in
+    is ∙ ap (terms_at c.args.count c.args.room c.args.life c.args.rolls) (sym (ap (λ (t : Terms). t.no) is)) in
+    let Named : ShardView → Type 0 = IsNamed (terms_at c.args.count c.args.room c.args.life c.args.rolls) in
     let Counted : ShardView → Type 0 = λ s. s.terms.count ≡ c.args.count in
     let New : ShardView → Type 0 = λ s. s.history ≡ [] in
     let NoneOut : ShardView → Type 0 = λ s. s.out ≡ [] in

@@ -7,7 +7,7 @@ use Rattle.shard_lock.proofs.making.new_shards.Given as goal
 abbrev pub invariant-loop-no : goal.invariant-loop-no
 invariant-loop-no l =
     (length l.shards.items ≡ l.no) × (l.count ≤ vec_capacity l.shards)
-    × All (IsNamed (terms_at l.count l.room l.life l.keep)) l.shards.items
+    × All (IsNamed (terms_at l.count l.room l.life l.rolls)) l.shards.items
     × All (λ shard. shard.terms.count ≡ l.count) l.shards.items
     × All (λ shard. shard.history ≡ []) l.shards.items
     × All (λ shard. shard.out ≡ []) l.shards.items

@@ -1,6 +1,6 @@
 use Rattle.std.proofs.Common.{length}
 use Rattle.core_history.specs.Machine.{log_cap}
-use Rattle.top_run.specs.Serves.{serve_shape, serve_keep}
+use Rattle.top_run.specs.Serves.{serve_shape, serve_rolls}
 use Rattle.top_run.specs.Works.{hub_terms}
 use Rattle.top_run.specs.Warming.{before_of}
 use Rattle.top_run.proofs.serves.serve_begun.Given as goal
@@ -8,7 +8,7 @@ use Rattle.top_run.proofs.serves.serve_begun.Given as goal
 -- what the shards are made with, the store as it is handed in, and the steps by which rows were loaded
 abbrev pub ghosts-serve_store-H-HubName : goal.ghosts-serve_store-H-HubName
 ghosts-serve_store-H-HubName g a = record {
-  terms = hub_terms (serve_shape a.server.now.spec.now) serve_keep;
+  terms = hub_terms (serve_shape a.server.now.spec.now) serve_rolls;
   opening = a.store.ledger.opening;
   cap = log_cap;
   known_rows = a.store.known_rows;

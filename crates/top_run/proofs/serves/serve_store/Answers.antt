@@ -6,7 +6,7 @@ use Rattle.std.proofs.lemmas.List.{length-map}
 use Rattle.key_shard.specs.Shards.{kept_of}
 use Rattle.top_run.specs.Runs.{CountsWhere, moment, IsOpened, kept_in, is_read_fault, is_write_fault, is_door_fault}
 use Rattle.top_run.specs.Begins.{beginning_of, files_seen}
-use Rattle.top_run.specs.Serves.{serve_shape, serve_keep, Course, beginning_in}
+use Rattle.top_run.specs.Serves.{serve_shape, serve_rolls, Course, beginning_in}
 use Rattle.door_workers.specs.Attending.{seen_at}
 use Rattle.top_run.proofs.KeepLemmas.{opened_since}
 use Rattle.top_run.specs.declared.runs.Status.{Status}
@@ -29,7 +29,7 @@ serve_over_hub-store-requires-clause-parts g c =
 pub serve_over_hub-store-requires-clause-new : goal.serve_over_hub-store-requires-clause-new
 serve_over_hub-store-requires-clause-new g c =
     λ κs outlives. rw c.renamed.ensures
-    (new_store (serve_shape c.args.server.now.spec.now) serve_keep c.args.store _ _ _ _ _ _ _ _ _ _ _ _ _ c.requires.anew c.requires.named)
+    (new_store (serve_shape c.args.server.now.spec.now) serve_rolls c.args.store _ _ _ _ _ _ _ _ _ _ _ _ _ c.requires.anew c.requires.named)
 
 pub returns-clause-ended : goal.returns-clause-ended
 returns-clause-ended g c = λ unread rows start held first starts opens begun.
@@ -49,7 +49,7 @@ returns-clause-ended g c = λ unread rows start held first starts opens begun.
     let many : length (kept_in shards) ≡ shape.shards =
     length-map shards kept_of ∙ c.serve_over_hub-store.ensures.as_many ∙ c.requires.ready.as_many in
     let last = last_of g.H.HubName.terms shape 256 shards c.requires.named.terms_are c.serve_over_hub-store.ensures.all c.serve_over_hub-store.ensures.legal in
-    let kept = is_kept shape serve_keep held before after store (kept_in shards) g.H.HubName.start refl refl (c.requires.named.start_is ∙ starts)
+    let kept = is_kept shape serve_rolls held before after store (kept_in shards) g.H.HubName.start refl refl (c.requires.named.start_is ∙ starts)
     c.ended_hub.ensures.short (named.cap_is ∙ c.requires.named.cap_is) c.ended_hub.ensures.told c.ended_hub.ensures.since
     last many opened (λ whole some. absurd cc) (λ whole. absurd cc) in
     let course : Course = record {
@@ -179,7 +179,7 @@ saved-status-requires-clause-few g c =
 pub saved-status-requires-clause-roomy : goal.saved-status-requires-clause-roomy
 saved-status-requires-clause-roomy g c =
     rw c.as_slice.ensures.value
-    (rooms_of (serve_shape c.args.server.now.spec.now) serve_keep g.H.HubName.terms c.serve_over_hub-store.result.shards.items c.requires.named.terms_are
+    (rooms_of (serve_shape c.args.server.now.spec.now) serve_rolls g.H.HubName.terms c.serve_over_hub-store.result.shards.items c.requires.named.terms_are
     c.serve_over_hub-store.ensures.all (omega arith))
 
 pub saved-status-requires-clause-unsaved : goal.saved-status-requires-clause-unsaved

@@ -21,7 +21,7 @@ dumps_of-requires-clause-numbered g c =
     let spec = c.args.warming.now.spec.now in
     let many = c.requires.run.as_many in
     rw c.as_slice.ensures.value
-    (numbered_of (hub_terms (work_shape spec) None) c.args.first.shards.items c.requires.run.all (omega (arith, many, c.requires.work.few_shards)))
+    (numbered_of (hub_terms (work_shape spec) false) c.args.first.shards.items c.requires.run.all (omega (arith, many, c.requires.work.few_shards)))
 
 pub tell_dumps-requires : goal.tell_dumps-requires
 tell_dumps-requires g c = rw c.as_slice-2.ensures.value (all_bytes c.log.result.now c.as_slice.result.now c.in-Ok.dumps.items c.in-Ok.ensures)

@@ -7,7 +7,7 @@ use Rattle.top_run.proofs.warms.load_second.Given as goal
 -- what the shards are made with, the store as it was made anew, and the steps by which the dumps were loaded
 abbrev pub ghosts-run_second-H-HubName : goal.ghosts-run_second-H-HubName
 ghosts-run_second-H-HubName g a = record {
-  terms = hub_terms (work_shape a.warming.now.spec.now) None;
+  terms = hub_terms (work_shape a.warming.now.spec.now) false;
   opening = a.half.store.ledger.opening;
   cap = log_cap;
   known_rows = a.half.store.known_rows;

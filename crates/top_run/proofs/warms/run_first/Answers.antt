@@ -27,7 +27,7 @@ use Rattle.top_run.proofs.warms.run_first.Goals as goal
 
 pub run_plans-store-requires-clause-parts : goal.run_plans-store-requires-clause-parts
 run_plans-store-requires-clause-parts g c =
-    λ κs outlives. make_hub (work_shape c.args.warming.now.spec.now) None g.H.HubName.terms g.H.HubName.opening g.H.BoundName.before _ _ _ g.H.BoundName.word
+    λ κs outlives. make_hub (work_shape c.args.warming.now.spec.now) false g.H.HubName.terms g.H.HubName.opening g.H.BoundName.before _ _ _ g.H.BoundName.word
     g.H.BoundName.begun g.H.BoundName.failed c.args.ready.parts c.requires.named.terms_are c.requires.ready.parts c.requires.work.few_shards c.requires.parts
 
 pub run_plans-store-requires-clause-new : goal.run_plans-store-requires-clause-new
@@ -75,7 +75,7 @@ dump_first-requires-clause-run g c κs within =
     let shards = c.run_plans-store.result.shards.items in
     let named = c.run_plans-store.ensures.store in
     record {
-      all = all_alike g.H.HubName.terms (hub_terms (work_shape c.args.warming.now.spec.now) None) shards c.requires.named.terms_are c.run_plans-store.ensures.all;
+      all = all_alike g.H.HubName.terms (hub_terms (work_shape c.args.warming.now.spec.now) false) shards c.requires.named.terms_are c.run_plans-store.ensures.all;
       as_many = c.run_plans-store.ensures.as_many ∙ c.requires.ready.parts.as_many;
       legal = c.run_plans-store.ensures.legal;
       cap_is = named.cap_is ∙ c.requires.named.cap_is;
@@ -143,7 +143,7 @@ returns-clause-ended g c = λ unread door files rows held opens.
     let many : length (histories_in shards) ≡ spec.shards =
     length-map shards (λ (s : ShardView). s.history) ∙ c.run_plans-store.ensures.as_many ∙ c.requires.ready.parts.as_many in
     let legal = legal_of g.H.HubName.terms (work_shape spec) shards c.requires.named.terms_are c.run_plans-store.ensures.all c.run_plans-store.ensures.legal in
-    let kept = is_kept (work_shape spec) None held before after store (histories_in shards) g.H.HubName.start refl refl c.requires.named.start_is
+    let kept = is_kept (work_shape spec) false held before after store (histories_in shards) g.H.HubName.start refl refl c.requires.named.start_is
     c.ended_first.ensures.short (named.cap_is ∙ c.requires.named.cap_is) c.ended_first.ensures.told c.ended_first.ensures.since
     legal many opened
     (λ whole some. subst (λ (opening : Tables). Fresh opening store.ledger.log (histories_in shards)) (sym named.opening_is) (c.run_plans-store.ensures.fresh some))

@@ -32,7 +32,7 @@ use Rattle.top_run.proofs.warms.run_second.Goals as goal
 
 pub run_plans-store-requires-clause-new : goal.run_plans-store-requires-clause-new
 run_plans-store-requires-clause-new g c =
-    λ κs outlives. rw c.renamed.ensures (new_store (work_shape c.args.warming.now.spec.now) None c.args.half.store _ _ _ _ _ _ _ _ _ _ _ _ _ c.requires.anew c.requires.named)
+    λ κs outlives. rw c.renamed.ensures (new_store (work_shape c.args.warming.now.spec.now) false c.args.half.store _ _ _ _ _ _ _ _ _ _ _ _ _ c.requires.anew c.requires.named)
 
 pub run_plans-store-requires-clause-ask : goal.run_plans-store-requires-clause-ask
 run_plans-store-requires-clause-ask g c =
@@ -66,13 +66,13 @@ pub run_plans-store-requires-clause-loads_before : goal.run_plans-store-requires
 run_plans-store-requires-clause-loads_before g c =
     let ready = c.requires.ready in
     λ κs outlives. loads_named c.args.half.store.known_rows c.args.half.store.ledger.opening ready.dumps ready.olds c.args.ready.parts.hub.shards.items ready.loaded ready.many
-    (hub_terms (work_shape c.args.warming.now.spec.now) None) ready.all g.H.BoundName.before c.requires.named.before_is
+    (hub_terms (work_shape c.args.warming.now.spec.now) false) ready.all g.H.BoundName.before c.requires.named.before_is
 
 pub run_plans-store-requires-clause-legal : goal.run_plans-store-requires-clause-legal
 run_plans-store-requires-clause-legal g c =
     let ready = c.requires.ready in
     λ κs outlives. legal_loaded c.args.half.store.known_rows c.args.half.store.ledger.opening ready.dumps ready.olds c.args.ready.parts.hub.shards.items ready.loaded ready.many
-    (hub_terms (work_shape c.args.warming.now.spec.now) None) ready.all
+    (hub_terms (work_shape c.args.warming.now.spec.now) false) ready.all
 
 pub run_plans-store-requires-clause-from_one : goal.run_plans-store-requires-clause-from_one
 run_plans-store-requires-clause-from_one g c = λ κs outlives place. ap (λ (t : Terms). t.first) (c.requires.named.terms_are place)
@@ -120,7 +120,7 @@ returns-clause-ended g c = λ unread door files rows start held taken failed spe
     let keeps : IsSome store.known_rows → KeepsAnswers given.ledger.opening store.ledger.log = λ some.
     subst (λ (t : Tables). KeepsAnswers t store.ledger.log) named_now (run.keeps some) in
     let many : length shards ≡ second.shards = run.as_many ∙ c.requires.ready.loaded.as_many ∙ c.requires.ready.as_many in
-    let all = all_alike g.H.HubName.terms (hub_terms (work_shape second) None) shards named.terms_are run.all in
+    let all = all_alike g.H.HubName.terms (hub_terms (work_shape second) false) shards named.terms_are run.all in
     let by_spec : IsLeftBy second store.known_rows anew left = record {
       opening_is = ap (λ (t : Tables). Some t) opening_now;
       short = subst (λ (n : ℕ). length store.ledger.log ≤ n) (run.store.cap_is ∙ named.cap_is) c.ended_hub.ensures.short;

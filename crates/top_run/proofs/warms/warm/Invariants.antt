@@ -6,7 +6,7 @@ use Rattle.top_run.proofs.warms.warm.Given as goal
 -- what the shards are made with, and the store as it is handed in
 abbrev pub ghosts-run_first-H-HubName : goal.ghosts-run_first-H-HubName
 ghosts-run_first-H-HubName g a = record {
-  terms = hub_terms (work_shape a.warming.now.spec.now) None;
+  terms = hub_terms (work_shape a.warming.now.spec.now) false;
   opening = a.store.ledger.opening;
   cap = log_cap;
   known_rows = a.store.known_rows;

@@ -6,7 +6,7 @@ use Rattle.top_run.proofs.works.work.Given as goal
 -- what the shards are made with, and the store as it is handed in
 abbrev pub ghosts-work_on-H-HubName : goal.ghosts-work_on-H-HubName
 ghosts-work_on-H-HubName g a = record {
-  terms = hub_terms (work_shape a.spec.now) None;
+  terms = hub_terms (work_shape a.spec.now) false;
   opening = a.store.ledger.opening;
   cap = log_cap;
   known_rows = a.store.known_rows;

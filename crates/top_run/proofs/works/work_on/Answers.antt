@@ -24,7 +24,7 @@ use Rattle.top_run.proofs.works.work_on.Goals as goal
 
 pub run_plans-store-requires-clause-parts : goal.run_plans-store-requires-clause-parts
 run_plans-store-requires-clause-parts g c =
-    λ κs outlives. make_hub (work_shape c.args.spec.now) None g.H.HubName.terms g.H.HubName.opening g.H.BoundName.before _ _ _ g.H.BoundName.word
+    λ κs outlives. make_hub (work_shape c.args.spec.now) false g.H.HubName.terms g.H.HubName.opening g.H.BoundName.before _ _ _ g.H.BoundName.word
     g.H.BoundName.begun g.H.BoundName.failed c.args.ready.parts c.requires.named.terms_are c.requires.ready.parts c.requires.work.few_shards c.requires.parts
 
 pub run_plans-store-requires-clause-new : goal.run_plans-store-requires-clause-new
@@ -87,7 +87,7 @@ returns-clause-ended g c = λ unread rows held opens.
     let many : length (histories_in shards) ≡ spec.shards =
     length-map shards (λ (s : ShardView). s.history) ∙ c.run_plans-store.ensures.as_many ∙ c.requires.ready.parts.as_many in
     let legal = legal_of g.H.HubName.terms (work_shape spec) shards c.requires.named.terms_are c.run_plans-store.ensures.all c.run_plans-store.ensures.legal in
-    let kept = is_kept (work_shape spec) None held before after store (histories_in shards) g.H.HubName.start refl refl c.requires.named.start_is
+    let kept = is_kept (work_shape spec) false held before after store (histories_in shards) g.H.HubName.start refl refl c.requires.named.start_is
     short (c.run_plans-store.ensures.store.cap_is ∙ c.requires.named.cap_is) c.ended_work.ensures.told c.ended_work.ensures.since
     legal many opened
     (λ whole some. subst (λ (opening : Tables). Fresh opening store.ledger.log (histories_in shards)) (sym named.opening_is) (c.run_plans-store.ensures.fresh some))

@@ -8,42 +8,38 @@ use Rattle.bound_hub.specs.Gets.{IsLastStep}
 use Rattle.bound_hub.specs.Olds.{IsOldHeld, IsRaiseHeld}
 use Rattle.bound_hub.specs.Ties.{BoundShardView}
 use Rattle.bound_hub.specs.StepShorts.{raise_short}
-use Rattle.bound_hub.proofs.CountLemmas.{not_out, is_out_then, raised_more}
 use Rattle.bound_hub.proofs.GetLemmas.{has_mapped}
 use Rattle.bound_hub.proofs.QuarantineLemmas.{found_is_seen}
 use Rattle.bound_hub.proofs.RaiseTies.{raise_is_honest, raise_leaves, raise_tells, raise_is_held, has_raised}
 use Rattle.bound_hub.proofs.StepTies.{told_so, invariant_after, invariant_still, home_of_made, step_is_more, step_is_last}
 use Rattle.bound_hub.proofs.bound_shards.BoundShard.make_raise.Goals as goal
 
-pub invariant_of-self-then-kept_steps-kept : goal.invariant_of-self-then-kept_steps-kept
-invariant_of-self-then-kept_steps-kept g c =
+pub invariant_of-self-then-not-out : goal.invariant_of-self-then-not-out
+invariant_of-self-then-not-out g c =
     let shard = c.self.inside.shard in
     let a = c.args in
     let new = c.raise.new.self in
     let made = c.in-Ok.ensures in
-    let out = not_out shard new c.kept_steps-kept.result c.kept_steps.result (is_out shard a.grant) c.kept_steps-kept.ensures.count c.kept_steps.ensures.count
-    (λ e. raised_more shard new a.grant (made.out e)) c.if-kept_steps-kept.true in
+    let out = sym c.is_out-out.ensures ∙ c.if-not-out.true in
     invariant_still g.H.HubName.terms c.self.inside.token.parts c.self.inside.token.amount g.H.BoundName.word g.H.HubName.opening g.H.BoundName.before
-    shard new c.self.inside.pass c.note-then-kept_steps-kept.new.self (made.unknown out).0 c.note-then-kept_steps-kept.ensures.same c.self.invariant
+    shard new c.self.inside.pass c.note-then-not-out.new.self (made.unknown out).0 c.note-then-not-out.ensures.same c.self.invariant
 
-pub returns-then-kept_steps-kept-clause-last : goal.returns-then-kept_steps-kept-clause-last
-returns-then-kept_steps-kept-clause-last g c = λ is.
+pub returns-then-not-out-clause-last : goal.returns-then-not-out-clause-last
+returns-then-not-out-clause-last g c = λ is.
     let shard = c.self.inside.shard in
     let a = c.args in
     let new = c.raise.new.self in
     let made = c.in-Ok.ensures in
-    let out = not_out shard new c.kept_steps-kept.result c.kept_steps.result (is_out shard a.grant) c.kept_steps-kept.ensures.count c.kept_steps.ensures.count
-    (λ e. raised_more shard new a.grant (made.out e)) c.if-kept_steps-kept.true in
+    let out = sym c.is_out-out.ensures ∙ c.if-not-out.true in
     absurd (false≢true (sym out ∙ subst (λ (v : BoundShardView). is_out v.shard a.grant ≡ true) (sym c.self.view_is) is))
 
-pub returns-then-kept_steps-kept-clause-old : goal.returns-then-kept_steps-kept-clause-old
-returns-then-kept_steps-kept-clause-old g c = λ is.
+pub returns-then-not-out-clause-old : goal.returns-then-not-out-clause-old
+returns-then-not-out-clause-old g c = λ is.
     let shard = c.self.inside.shard in
     let a = c.args in
     let new = c.raise.new.self in
     let made = c.in-Ok.ensures in
-    let out = not_out shard new c.kept_steps-kept.result c.kept_steps.result (is_out shard a.grant) c.kept_steps-kept.ensures.count c.kept_steps.ensures.count
-    (λ e. raised_more shard new a.grant (made.out e)) c.if-kept_steps-kept.true in
+    let out = sym c.is_out-out.ensures ∙ c.if-not-out.true in
     absurd (false≢true (sym out ∙ subst (λ (v : BoundShardView). is_out v.shard a.grant ≡ true) (sym c.self.view_is) is))
 
 pub invariant_of-self-2 : goal.invariant_of-self-2
@@ -56,8 +52,7 @@ invariant_of-self-2 g c =
     let made = c.in-Ok.ensures in
     let has = c.is_some-has.result in
     let step = raise_step (past_of shard) a.grant in
-    let out = is_out_then shard new c.kept_steps-kept.result c.kept_steps.result (is_out shard a.grant) c.kept_steps-kept.ensures.count c.kept_steps.ensures.count
-    (λ e. (made.unknown e).0) c.if-kept_steps-kept.false in
+    let out = sym c.is_out-out.ensures ∙ c.if-not-out.false in
     let short = c.raise_short-short.ensures ∙ (λ i. raise_short (c.key-key.ensures i) (c.sid-sid.ensures i) (c.token-token.ensures i) c.in-Ok.answer has) in
     let has_is = has_mapped _ c.peek.result (entry a.grant.key (past_of new)) has c.is_some-has.ensures (c.peek.ensures ∙ ap (λ k. entry k (past_of new)) c.key-key.ensures) in
     let tells = raise_tells (past_of shard) a.grant c.in-Ok.answer has (made.shows out) in
@@ -95,7 +90,7 @@ returns-clause-old g c = λ is.
     let step = raise_step (past_of shard) a.grant in
     let made = has_raised (past_of shard) a.grant shard new (ensured.out out) in
     let same_no : new.terms.no ≡ shard.terms.no = ap (λ (t : Terms). t.no) made.terms in
-    let home = home_of_made g.H.BoundName.word opening before shard new c.self.inside.pass c.self.invariant.2 step made c.kept_steps.ensures.legal a.grant.key
+    let home = home_of_made g.H.BoundName.word opening before shard new c.self.inside.pass c.self.invariant.2 step made c.legal-2.ensures a.grant.key
     (raise_tells (past_of shard) a.grant c.in-Ok.answer c.is_some-has.result (ensured.shows out)).1 in
     let held = found_is_seen g.H.BoundName.word opening before new c.tell.new.self now.2 a.grant.key (home ∙ sym same_no) (entry a.grant.key (past_of shard))
     (ap (entry a.grant.key) made.past ∙ raise_leaves (past_of shard) a.grant) in

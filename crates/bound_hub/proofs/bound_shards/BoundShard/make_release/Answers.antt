@@ -7,7 +7,6 @@ use Rattle.bound_hub.specs.Gets.{IsLastStep}
 use Rattle.bound_hub.specs.Releases.{MayRelease}
 use Rattle.bound_hub.specs.Ties.{BoundShardView}
 use Rattle.bound_hub.specs.StepShorts.{release_short}
-use Rattle.bound_hub.proofs.CountLemmas.{not_out, is_out_then, returned_more}
 use Rattle.bound_hub.proofs.GetLemmas.{has_mapped}
 use Rattle.bound_hub.proofs.ReleaseLemmas.{release_is_honest, release_on, release_tells, release_borne_out}
 use Rattle.bound_hub.proofs.StepTies.{has_returned, told_so, invariant_after, invariant_still, home_of_made, step_is_more, step_is_last}
@@ -19,8 +18,7 @@ invariant_of-self g c =
     let a = c.args in
     let new = c.release-answer.new.self in
     let made = c.release-answer.ensures in
-    let out = not_out shard new c.kept_steps-kept.result c.kept_steps.result (is_out shard a.grant) c.kept_steps-kept.ensures.count c.kept_steps.ensures.count
-    (λ e. returned_more shard new a.grant (release_step (past_of shard) a.grant a.how) (made.out e)) c.if-kept_steps-kept.true in
+    let out = sym c.is_out-out.ensures ∙ c.if-not-out.true in
     invariant_still g.H.HubName.terms c.self.inside.token.parts c.self.inside.token.amount g.H.BoundName.word g.H.HubName.opening g.H.BoundName.before
     shard new c.self.inside.pass c.note.new.self (made.unknown out).0 c.note.ensures.same c.self.invariant
 
@@ -32,12 +30,11 @@ tell-requires-clause-borne_out g c =
     let new = c.release-answer.new.self in
     let made = c.release-answer.ensures in
     let has = c.is_some-has.result in
-    let out = is_out_then shard new c.kept_steps-kept.result c.kept_steps.result (is_out shard a.grant) c.kept_steps-kept.ensures.count c.kept_steps.ensures.count
-    (λ e. (made.unknown e).0) c.if-kept_steps-kept.false in
+    let out = sym c.is_out-out.ensures ∙ c.if-not-out.false in
     let may = subst (λ (v : BoundShardView). MayRelease g.H.HubName.opening g.H.BoundName.word.shards v.shard.terms.no a.grant a.how v.seen) (sym c.self.view_is) c.requires.honest in
     let short = c.release_short-short.ensures ∙ (λ i. release_short (c.key-key.ensures i) (c.sid-sid.ensures i) (c.token-token.ensures i) a.how c.release-answer.result has) in
     subst (IsBorneOut pass.seen.events) (sym short)
-    (release_borne_out g.H.BoundName.word g.H.HubName.opening g.H.BoundName.before shard pass c.self.invariant.2 c.kept_steps-kept.ensures.legal c.sound.ensures a.grant out a.how may
+    (release_borne_out g.H.BoundName.word g.H.HubName.opening g.H.BoundName.before shard pass c.self.invariant.2 c.legal.ensures c.sound.ensures a.grant out a.how may
     c.release-answer.result has)
 
 pub invariant_of-self-2 : goal.invariant_of-self-2
@@ -48,20 +45,19 @@ invariant_of-self-2 g c =
     let word = g.H.BoundName.word in
     let opening = g.H.HubName.opening in
     let before = g.H.BoundName.before in
-    let legal = c.kept_steps-kept.ensures.legal in
+    let legal = c.legal.ensures in
     let new = c.release-answer.new.self in
     let ensured = c.release-answer.ensures in
     let has = c.is_some-has.result in
     let step = release_step (past_of shard) a.grant a.how in
-    let out = is_out_then shard new c.kept_steps-kept.result c.kept_steps.result (is_out shard a.grant) c.kept_steps-kept.ensures.count c.kept_steps.ensures.count
-    (λ e. (ensured.unknown e).0) c.if-kept_steps-kept.false in
+    let out = sym c.is_out-out.ensures ∙ c.if-not-out.false in
     let may = subst (λ (v : BoundShardView). MayRelease g.H.HubName.opening g.H.BoundName.word.shards v.shard.terms.no a.grant a.how v.seen) (sym c.self.view_is) c.requires.honest in
     let short = c.release_short-short.ensures ∙ (λ i. release_short (c.key-key.ensures i) (c.sid-sid.ensures i) (c.token-token.ensures i) a.how c.release-answer.result has) in
     let has_is = has_mapped _ c.peek.result (entry a.grant.key (past_of new)) has c.is_some-has.ensures (c.peek.ensures ∙ ap (λ k. entry k (past_of new)) c.key-key.ensures) in
     let tells = release_tells word opening before shard pass c.self.invariant.2 legal c.sound.ensures a.grant out a.how c.release-answer.result has (ensured.shows out) in
     let made = has_returned shard new a.grant step (ensured.out out) in
     let on = release_on word opening before shard pass c.self.invariant.2 legal c.sound.ensures a.grant out a.how in
-    let home = home_of_made word opening before shard new pass c.self.invariant.2 step made c.kept_steps.ensures.legal a.grant.key on in
+    let home = home_of_made word opening before shard new pass c.self.invariant.2 step made c.legal-2.ensures a.grant.key on in
     invariant_after g.H.HubName.terms c.self.inside.token.parts c.self.inside.token.amount word opening before shard pass c.self.invariant c.sound.ensures step
     (release_is_honest word opening before shard pass c.self.invariant.2 legal c.sound.ensures a.grant out a.how home may) new made
     c.release_short-short.result c.tell.new.self

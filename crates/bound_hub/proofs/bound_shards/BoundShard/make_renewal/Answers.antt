@@ -1,4 +1,4 @@
-use Rattle.std.proofs.Common.{is_some, ap, subst, ◌∙◌}
+use Rattle.std.proofs.Common.{is_some, sym, ap, subst, ◌∙◌}
 use Rattle.key_shard.specs.Answers.{renew_step}
 use Rattle.key_shard.specs.Past.{entry}
 use Rattle.key_shard.specs.Shards.{past_of, is_out}
@@ -6,7 +6,6 @@ use Rattle.log_word.specs.Steps.{IsBeginning}
 use Rattle.bound_hub.specs.Gets.{IsLastStep}
 use Rattle.bound_hub.specs.Ties.{BoundShardView}
 use Rattle.bound_hub.specs.StepShorts.{renew_short}
-use Rattle.bound_hub.proofs.CountLemmas.{is_out_then}
 use Rattle.bound_hub.proofs.GetLemmas.{has_mapped}
 use Rattle.bound_hub.proofs.RaiseTies.{renew_is_honest, renew_tells}
 use Rattle.bound_hub.proofs.StepTies.{has_stepped, told_so, invariant_after, step_is_more, step_is_last}
@@ -23,8 +22,7 @@ invariant_of-self-2 g c =
     let made = c.in-Ok.ensures in
     let has = c.is_some-has.result in
     let step = renew_step shard.terms (past_of shard) grant a.now in
-    let out = is_out_then shard new c.kept_steps-kept.result c.kept_steps.result (is_out shard grant) c.kept_steps-kept.ensures.count c.kept_steps.ensures.count
-    (λ e. (made.unknown e).0) c.if-kept_steps-kept.false in
+    let out = sym c.is_out-out.ensures ∙ c.if-not-out.false in
     let short = c.renew_short-short.ensures ∙ (λ i. renew_short (c.key-key.ensures i) (c.sid.ensures i) (c.token.ensures i) c.in-Ok.answer has) in
     let has_is = has_mapped _ c.peek.result (entry grant.key (past_of new)) has c.is_some-has.ensures (c.peek.ensures ∙ ap (λ k. entry k (past_of new)) c.key-key.ensures) in
     let tells = renew_tells shard.terms (past_of shard) grant a.now c.in-Ok.answer has (made.shows out) in

@@ -24,7 +24,7 @@ tell-requires-clause-borne_out g c =
     let home = subst (λ n. shard_of a.key n ≡ shard.terms.no) bound.count (not_refused_at_home shard a.key step c.in-Ok.answer made.refusal) in
     let may = subst (λ (v : BoundShardView). MaySet g.H.HubName.opening g.H.BoundName.word.shards v.shard.terms.no a.key a.token a.value a.stamp v.seen) (sym c.self.view_is) c.requires.asked in
     subst (IsBorneOut pass.seen.events) (sym c.set_short-short.ensures)
-    (set_borne_out g.H.BoundName.word g.H.HubName.opening g.H.BoundName.before shard pass bound c.kept_steps-kept.ensures.legal c.sound.ensures a.key a.token a.value a.stamp a.now home may
+    (set_borne_out g.H.BoundName.word g.H.HubName.opening g.H.BoundName.before shard pass bound c.legal.ensures c.sound.ensures a.key a.token a.value a.stamp a.now home may
     c.in-Ok.answer c.is_some-has.result made.shows)
 
 pub invariant_of-self : goal.invariant_of-self
@@ -37,7 +37,7 @@ invariant_of-self g c =
     let word = g.H.BoundName.word in
     let opening = g.H.HubName.opening in
     let before = g.H.BoundName.before in
-    let legal = c.kept_steps-kept.ensures.legal in
+    let legal = c.legal.ensures in
     let sound = c.sound.ensures in
     let step = set_step shard.terms (past_of shard) a.key a.token a.value a.stamp a.now in
     let home = subst (λ n. shard_of a.key n ≡ shard.terms.no) bound.count (not_refused_at_home shard a.key step c.in-Ok.answer made.refusal) in
