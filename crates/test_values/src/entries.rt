@@ -12,7 +12,7 @@ use std::process::Abort;
 /// A call on the friends of the member with the id that comes first.
 #[derive(Clone, Copy)]
 enum Call {
-    Find(u32),
+    Promote(u32),
     Peek(u32),
     Drop(u32),
     /// With a value and a stamp.
