@@ -3,11 +3,11 @@
 No step has to come. So a client that dies between any two steps is one that takes no step more. Each step is one
 moment at the server or at the database. A client that is slow, or whose words arrive late, takes its step late.
 """
-from database import begin, end, fence, is_running, mark, open_life, with_tx
-from server import How, give_lease, lose_value, open_server, over, quarantine, release, restart, set_value, with_item
-from server import Session
+from database import begin, committed, end, fence, is_running, mark, open_life, with_tx
+from rules import Rules
+from server import How, Session, give_lease, lose_value, open_server, over, quarantine, release, restart, set_value, with_item
 from setups import Write
-from world import Model, Opener, Reader, State, Step, Steps, Writer
+from world import Model, Opener, Reader, State, Steps, Writer
 
 
 def steps(model: Model, state: State) -> Steps:
@@ -31,6 +31,13 @@ def with_writer(state: State, i: int, writer: Writer) -> State:
 
 
 # ---- writers ----
+
+RELEASED: dict[How, str] = {
+    "keep": "and keeps its value",
+    "drop": "and drops its value",
+    "put": "and puts the value it made",
+    "shift": "and shifts its value",
+}
 
 
 def begins(model: Model, state: State, i: int) -> Steps:
@@ -115,17 +122,17 @@ def put_value(model: Model, state: State, i: int, write: Write) -> int:
     own = 1 << i
     if write.how == "shift":
         return own
-    return (state.database.txs[i].seen | own) & model.touching(write.key)
+    return (state.database.txs[i].seen | own) & model.touching[write.key]
 
 
 def releases(model: Model, state: State, i: int, writer: Writer, session: Session) -> Steps:
     """The next key of those that it asked for, once it knows its end. What is Gone is released as well."""
-    if writer.released == writer.asked:
+    if writer.released >= writer.asked:
         return
     rules, tx = model.rules, state.database.txs[i]
     write = model.setup.writers[i][writer.released]
     how = how_released(model, writer, write)
-    words = f"w{i} releases key {write.key} ({how})"
+    words = f"w{i} releases key {write.key} {RELEASED[how]}"
     if writer.end == "unknown":
         if tx.state == "open" and tx.marked and not rules.reply_first:
             words += " before its COMMIT"
@@ -156,12 +163,14 @@ def copies(model: Model, state: State, i: int, writer: Writer, session: Session)
         if write.how == "invalidate" or writer.end == "rolled back" or not rules.refresh_asked_once:
             server = quarantine(state.server, write.key, session, write.how, rules)
             if server is not None and server != state.server:
-                yield f"w{i}'s asking for key {write.key} arrives once more: granted", left._replace(server=server)
+                words = f"w{i}'s request to quarantine key {write.key} arrives once more, and is granted"
+                yield words, left._replace(server=server)
     for write in model.setup.writers[i][: writer.released]:
         how = how_released(model, writer, write)
         server = release(state.server, write.key, session, how, put_value(model, state, i, write), rules)
         if server is not None:
-            yield f"w{i}'s release of key {write.key} ({how}) arrives once more", left._replace(server=server)
+            words = f"w{i}'s release of key {write.key} {RELEASED[how]} arrives once more"
+            yield words, left._replace(server=server)
 
 
 def fences(model: Model, state: State, i: int, session: Session) -> Steps:
@@ -171,12 +180,18 @@ def fences(model: Model, state: State, i: int, session: Session) -> Steps:
         fenced = fence(state.database, i, session, model.rules)
         if fenced is not None:
             known = state._replace(database=fenced, over=state.over | {session})
-            yield f"w{i}'s session is overdue: somebody fences it", known
+            yield f"w{i}'s session is overdue: {how_fenced(model.rules)}", known
         return
     for key in range(len(state.server.items)):
         server = over(state.server, key, session, model.rules)
         if server is not None:
             yield f"the server hears that w{i}'s session is over: key {key} is free", state._replace(server=server)
+
+
+def how_fenced(rules: Rules) -> str:
+    if not rules.fence:
+        return "it is taken to be over"
+    return "somebody fences it" if rules.timeout_is_nothing else "somebody fences it, and takes a wait that is too long for an answer"
 
 
 def transaction_moves(model: Model, state: State, i: int) -> Steps:
@@ -206,12 +221,18 @@ def reads(model: Model, state: State, j: int) -> Steps:
             yield words, with_reader(state, j, after)._replace(server=leased[1])
     if reader.value is None and (reader.token is not None or not model.rules.lease_first):
         for value in answers(model, state, key):
-            yield f"r{j} asks the database for key {key}", with_reader(state, j, reader._replace(value=value))
+            words = f"r{j} asks the database for key {key}: the answer has {named(value)}"
+            yield words, with_reader(state, j, reader._replace(value=value))
     if reader.token is not None and reader.value is not None:
         server = set_value(state.server, key, reader.token, reader.value)
         after = Reader(None, None, reader.rounds - 1)
         words = f"r{j} sets key {key}" + (": void" if server is None else "")
         yield words, with_reader(state, j, after)._replace(server=server or state.server)
+
+
+def named(value: int) -> str:
+    """The transactions in a value, in words."""
+    return " and ".join(f"w{i}'s change" for i in range(value.bit_length()) if value & 1 << i) or "no change"
 
 
 def with_reader(state: State, j: int, reader: Reader) -> State:
@@ -220,7 +241,7 @@ def with_reader(state: State, j: int, reader: Reader) -> State:
 
 def answers(model: Model, state: State, key: int) -> list[int]:
     """What the key's query may say now: all that is committed, and at a replica any part of that."""
-    whole = sum(1 << i for i, tx in enumerate(state.database.txs) if tx.state == "committed") & model.touching(key)
+    whole = committed(state.database) & model.touching[key]
     if model.rules.primary:
         return [whole]
     return sorted({whole & part for part in range(whole + 1)})

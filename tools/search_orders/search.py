@@ -1,5 +1,5 @@
 """The search: breadth first, through every state that any order of steps leads to."""
-from time import monotonic
+from time import process_time
 from typing import NamedTuple
 
 from clients import steps
@@ -7,20 +7,21 @@ from world import Model, State
 
 
 class Found(NamedTuple):
-    wrong: str | None  # nothing, where every state was looked at
-    is_whole: bool  # the search came to its end, or to something wrong
+    wrong: str | None  # the first wrong value, in words
+    is_whole: bool  # every state was looked at, or a wrong one was found
     states: int
+    values: int  # states in which a get would hit
     steps: int
-    seconds: float
-    way: list[str]  # the shortest way to what is wrong, in words
+    seconds: float  # of the processor
+    way: list[str]  # the steps of a shortest way to what is wrong
 
 
 def search(model: Model, most: int) -> Found:
-    """Stops at the first wrong value, and behind `most` states."""
-    began = monotonic()
+    """Stops at the first wrong value. Gives up once it has seen more than `most` states."""
+    began = process_time()
     first = model.start()
     before: dict[State, State | None] = {first: None}
-    layer, taken = [first], 0
+    layer, values, taken = [first], 0, 0
     while layer and len(before) <= most:
         following: list[State] = []
         for state in layer:
@@ -29,13 +30,13 @@ def search(model: Model, most: int) -> Found:
                 if after in before:
                     continue
                 before[after] = state
+                values += any(item.value is not None for item in after.server.items)
                 wrong = model.wrong(after)
                 if wrong:
-                    way = way_to(model, before, after)
-                    return Found(wrong, True, len(before), taken, monotonic() - began, way)
+                    return Found(wrong, True, len(before), values, taken, process_time() - began, way_to(model, before, after))
                 following.append(after)
         layer = following
-    return Found(None, not layer, len(before), taken, monotonic() - began, [])
+    return Found(None, not layer, len(before), values, taken, process_time() - began, [])
 
 
 def way_to(model: Model, before: dict[State, State | None], last: State) -> list[str]:

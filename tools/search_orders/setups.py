@@ -39,28 +39,33 @@ def shifts(key: int) -> tuple[Write, ...]:
     return (Write(key, "shift"),)
 
 
-# Searched to the end in each run, with all parts in. A part that is taken away is looked for in one of them.
-SHORT: dict[str, Setup] = {
+# Searched by --quick too, with all parts in. A part that is taken away is looked for in one of these.
+QUICK: dict[str, Setup] = {
     "one": Setup((invalidates(0),), rounds=2),
     "refresh": Setup((refreshes(0), invalidates(0))),
-    "shift": Setup((shifts(0), invalidates(0))),
-    "copies": Setup((refreshes(0), invalidates(0)), copies=2),
+    "late words": Setup((refreshes(0), invalidates(0)), readers=(), copies=2),
     "restart": Setup((invalidates(0),), restarts=1, openers=1),
-    "leases": Setup((invalidates(0),), readers=(0, 0), restarts=1, openers=1),
-    "numbers": Setup((invalidates(0), invalidates(0)), restarts=1, openers=1, numbers=(1, 1)),
-    "openers": Setup((invalidates(0),), restarts=1, openers=2),
+    "two lives": Setup((invalidates(0),), readers=(0, 0), openers=1),
+    "one number": Setup((invalidates(0), invalidates(0)), openers=1, numbers=(1, 1)),
 }
 
-# Searched by --long besides.
-LONG: dict[str, Setup] = {
-    "two and a restart": Setup((invalidates(0), invalidates(0)), rounds=2, restarts=1, openers=1),
-    "refresh and a restart": Setup((refreshes(0), invalidates(0)), rounds=2, restarts=1, openers=1),
+# Searched where no bounds are asked for, besides.
+MIDDLE: dict[str, Setup] = {
+    "shift": Setup((shifts(0), invalidates(0))),
+    "two readers": Setup((invalidates(0),), readers=(0, 0), restarts=1, openers=1),
+    "two openers": Setup((invalidates(0),), restarts=1, openers=2),
     "two refreshes": Setup((refreshes(0), refreshes(0)), readers=(0, 0)),
-    "shift and refresh": Setup((shifts(0), refreshes(0)), rounds=2, restarts=1, openers=1),
-    "two keys": Setup((invalidates(0, 1), refreshes(1)), readers=(0, 1)),
-    "two restarts": Setup((invalidates(0),), readers=(0, 0), restarts=2, openers=2),
-    "three openers": Setup((invalidates(0),), restarts=2, openers=3),
-    "copies of three": Setup((refreshes(0), invalidates(0), shifts(0)), copies=2),
+    "two keys": Setup((invalidates(0, 1), refreshes(1))),
+    "late words, a reader": Setup((refreshes(0), invalidates(0)), copies=2),
 }
 
-SETUPS = SHORT | LONG
+# Searched by --long, besides.
+LONG: dict[str, Setup] = {
+    "two keys, two readers": Setup((invalidates(0, 1), refreshes(1)), readers=(0, 1)),
+    "invalidate twice": Setup((invalidates(0), invalidates(0)), rounds=2, restarts=1, openers=1),
+    "refresh, invalidate": Setup((refreshes(0), invalidates(0)), rounds=2, restarts=1, openers=1),
+    "shift, refresh": Setup((shifts(0), refreshes(0)), rounds=2, restarts=1, openers=1),
+    "two restarts": Setup((invalidates(0),), readers=(0, 0), restarts=2, openers=2),
+}
+
+SETUPS = QUICK | MIDDLE | LONG

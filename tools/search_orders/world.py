@@ -1,5 +1,4 @@
 """The state of all that takes part, and what a wrong value is."""
-from dataclasses import dataclass
 from typing import Iterator, Literal, NamedTuple
 
 from database import NO_TX, Database, committed
@@ -47,17 +46,19 @@ Step = tuple[str, State]
 Steps = Iterator[Step]
 
 
-@dataclass(frozen=True)
 class Model:
-    setup: Setup
-    rules: Rules
+    def __init__(self, setup: Setup, rules: Rules) -> None:
+        self.setup = setup
+        self.rules = rules
+        self.keys = 1 + max(write.key for writes in setup.writers for write in writes)
+        # of each key: the transactions that change its answer, as bits
+        self.touching = [sum(1 << i for i, keys in enumerate(setup.writers) if any(it.key == key for it in keys)) for key in range(self.keys)]
 
     def start(self) -> State:
         """Server and database are in life 1, nothing is cached, and nobody has begun."""
         setup = self.setup
-        keys = 1 + max(write.key for writes in setup.writers for write in writes)
         return State(
-            begun(1, 1, keys),
+            begun(1, 1, self.keys),
             Database(1, frozenset(), (NO_TX,) * len(setup.writers)),
             (Writer(None, 0, "unknown", 0),) * len(setup.writers),
             (Reader(None, None, setup.rounds),) * len(setup.readers),
@@ -67,12 +68,8 @@ class Model:
             setup.copies,
         )
 
-    def touching(self, key: int) -> int:
-        """The transactions that change this key's answer, as bits."""
-        return sum(1 << i for i, writes in enumerate(self.setup.writers) if any(it.key == key for it in writes))
-
     def wrong(self, state: State) -> str | None:
-        """What is wrong with a value at the server: since a get may come now, it would be a hit."""
+        """What is wrong with a value at the server. A get may come at any moment, so each value is a hit."""
         done = committed(state.database)
         for key, item in enumerate(state.server.items):
             if item.value is None:
@@ -81,7 +78,7 @@ class Model:
                 return f"key {key} holds a change twice"
             if item.value & ~done:
                 return f"key {key} holds a change that isn't committed"
-            lacks = done & self.touching(key) & ~item.value
+            lacks = done & self.touching[key] & ~item.value
             for i, writer in enumerate(state.writers):
                 if lacks & 1 << i and all(it.session != writer.session for it in item.quarantines):
                     return f"key {key} is stale: w{i} has committed, and has no quarantine there"
