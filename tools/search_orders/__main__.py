@@ -5,9 +5,9 @@
     python3 tools/search_orders --long     greater bounds besides: some minutes, and 2 GB of memory
     python3 tools/search_orders PART ..    without these parts, one at a time, with the way to a wrong value
 
-docs/model.md says what this is a model of. With all parts in no wrong value may be found, and each state has to be
-looked at; without any one part a wrong value has to be found. The last line is 'N passed, M failed', and the status is 1
-where one failed.
+docs/model.md says what this is a model of. With all parts in, each state has to be looked at, and no value be wrong.
+Without any one part a wrong value has to be found. The last line is 'N passed, M failed', and the status is 1 where
+one failed.
 """
 import gc
 import sys
@@ -22,7 +22,8 @@ MOST = 5_000_000
 
 def show(name: str, found: Found) -> None:
     what = found.wrong or ("none" if found.is_whole else f"not all: more than {MOST:,} states")
-    print(f"{name:26} {found.states:>9,} {found.values:>9,} {found.steps:>11,} {found.seconds:>7.1f} s  {what}", flush=True)
+    counts = f"{found.states:>9,} {found.values:>9,} {found.steps:>11,} {found.seconds:>7.1f} s"
+    print(f"{name:26} {counts}  {what}", flush=True)
 
 
 def show_way(found: Found) -> None:

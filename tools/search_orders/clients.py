@@ -5,12 +5,14 @@ moment at the server or at the database. A client that is slow, or whose words a
 """
 from database import begin, committed, end, fence, is_running, mark, open_life, with_tx
 from rules import Rules
-from server import How, Session, give_lease, lose_value, open_server, over, quarantine, release, restart, set_value, with_item
+from server import How, Session, give_lease, lose_value, open_server, over, quarantine, release, restart
+from server import set_value, with_item
 from setups import Write
 from world import Model, Opener, Reader, State, Steps, Writer
 
 
 def steps(model: Model, state: State) -> Steps:
+    """All that may come next, each with the state that it leaves."""
     for i, writer in enumerate(state.writers):
         if writer.session is None:
             yield from begins(model, state, i)
@@ -35,18 +37,20 @@ def with_writer(state: State, i: int, writer: Writer) -> State:
 RELEASED: dict[How, str] = {
     "keep": "and keeps its value",
     "drop": "and drops its value",
-    "put": "and puts the value it made",
+    "put": "and puts its own value",
     "shift": "and shifts its value",
 }
 
 
 def begins(model: Model, state: State, i: int) -> Steps:
+    """A session of the server's life. No number comes twice in one life."""
     session = Session(state.server.life, model.setup.numbers[i])
     if state.server.life and all(it.session != session for it in state.writers):
         yield f"w{i} begins a session", with_writer(state, i, state.writers[i]._replace(session=session))
 
 
 def writes(model: Model, state: State, i: int, writer: Writer, session: Session) -> Steps:
+    """The steps of a writer that has begun."""
     if writer.end == "unknown":
         yield from asks(model, state, i, writer, session)
         yield from transacts(model, state, i, writer, session)
@@ -84,6 +88,7 @@ def gives_up(state: State, i: int, writer: Writer) -> State:
 
 
 def transacts(model: Model, state: State, i: int, writer: Writer, session: Session) -> Steps:
+    """What the writer says to the database: it begins, marks, and sends COMMIT, or rolls back before that."""
     rules, tx = model.rules, state.database.txs[i]
     has_all = writer.asked == keys_to_ask(model, i)
     if tx.state == "none":
@@ -112,6 +117,7 @@ def learns(state: State, i: int, writer: Writer) -> Steps:
 
 
 def how_released(model: Model, writer: Writer, write: Write) -> How:
+    """By what the writer knows of its end, and by what it does to this key."""
     if writer.end == "rolled back" or (writer.end == "committed" and not model.rules.keep_only_rolled_back):
         return "keep"
     return "put" if write.how == "refresh" else "shift" if write.how == "shift" else "drop"
@@ -174,8 +180,8 @@ def copies(model: Model, state: State, i: int, writer: Writer, session: Session)
 
 
 def fences(model: Model, state: State, i: int, session: Session) -> Steps:
-    """Somebody meets an overdue quarantine of the session and fences it; then the word that it is over may arrive at any
-    time and again. A deadline may pass at any time, so this may come at any time."""
+    """Somebody meets an overdue quarantine of the session, and fences it. A deadline may pass at any moment, so this
+    may come at any moment. Behind it the server may hear at any time, and again, that the session is over."""
     if session not in state.over:
         fenced = fence(state.database, i, session, model.rules)
         if fenced is not None:
@@ -189,14 +195,15 @@ def fences(model: Model, state: State, i: int, session: Session) -> Steps:
 
 
 def how_fenced(rules: Rules) -> str:
+    """What happens to an overdue session, in words."""
     if not rules.fence:
         return "it is taken to be over"
-    return "somebody fences it" if rules.timeout_is_nothing else "somebody fences it, and takes a wait that is too long for an answer"
+    return "somebody fences it" if rules.timeout_is_nothing else "its fence waits too long, and is taken for done"
 
 
 def transaction_moves(model: Model, state: State, i: int) -> Steps:
-    """What the database does by itself: a COMMIT that was sent takes effect; a transaction is rolled back, as by a crash,
-    a clash, or since its client is gone."""
+    """What the database does by itself: a COMMIT that was sent takes effect; a transaction is rolled back, by a crash
+    or a clash, or since its client is gone."""
     tx = state.database.txs[i]
     if tx.state == "sent":
         yield f"the database commits w{i}", state._replace(database=end(state.database, i, "committed"))
@@ -251,7 +258,8 @@ def answers(model: Model, state: State, key: int) -> list[int]:
 
 
 def opens(model: Model, state: State, k: int) -> Steps:
-    """Asks for the server's run, puts a new life into the database, and says so to the server, at any time and again."""
+    """Asks for the server's run, and opens a new life at the database. Behind that the server may hear so at any
+    time, and again."""
     opener = state.openers[k]
     if not opener.run:
         yield f"o{k} asks for the server's run", with_opener(state, k, Opener(state.server.run, 0))
@@ -274,6 +282,7 @@ def with_opener(state: State, k: int, opener: Opener) -> State:
 
 
 def server_moves(model: Model, state: State) -> Steps:
+    """A value goes, a lease ends, and the server crashes."""
     for key, item in enumerate(state.server.items):
         if item.value is not None:
             yield f"key {key}'s value goes", state._replace(server=lose_value(state.server, key))

@@ -73,7 +73,8 @@ def fence(database: Database, i: int, session: Session, rules: Rules) -> Databas
 
 
 def open_life(database: Database, run: int, rules: Rules) -> Database | None:
-    """Puts the next life for the one that is there, whose rows go with it. Waits for each transaction that has marked."""
+    """Puts the next life in the place of the present one, whose rows go with it. Waits for each transaction that has
+    marked: nothing."""
     if any(is_running(tx) and tx.marked for tx in database.txs):
         return None
     return Database(database.life + 1 if rules.lives_grow else run, frozenset(), database.txs)

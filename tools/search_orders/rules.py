@@ -1,7 +1,7 @@
 """The parts of the design, each of which may be taken away by itself.
 
-A field of `Rules` is a part, and is true where the part is in. PARTS says of each what is wrong without it, and in which
-setup (setups.py) the search then looks for a wrong value.
+A field of `Rules` is a part, and is true where the part is in. PARTS says of each what happens without it, and in
+which setup (setups.py) the search then looks for a wrong value.
 """
 from dataclasses import dataclass, fields, replace
 
@@ -51,9 +51,9 @@ PARTS: dict[str, Part] = {
     "every_key": Part("a writer changes a key that it doesn't quarantine", "one"),
     "mark": Part("a transaction doesn't insert its session's row", "one"),
     "reply_first": Part("a writer releases its keys before the reply to COMMIT", "one"),
-    "lost_reply_drops_nothing": Part("a writer that lost the reply to COMMIT drops its keys' values, and so frees the keys", "one"),
-    "lost_reply_keeps_nothing": Part("a writer that lost the reply to COMMIT frees its keys and keeps their values", "one"),
-    "keep_only_rolled_back": Part("a writer frees its keys behind its commit and keeps their values", "one"),
+    "lost_reply_drops_nothing": Part("a writer that lost the reply to COMMIT drops its values all the same", "one"),
+    "lost_reply_keeps_nothing": Part("a writer that lost the reply to COMMIT releases its keys, values kept", "one"),
+    "keep_only_rolled_back": Part("a writer releases its keys behind its commit, values kept", "one"),
     "snapshot_behind": Part("a refresh is made over a snapshot from before its quarantine", "refresh"),
     "refresh_asked_once": Part("a quarantine to refresh is asked for again where the reply was lost", "late words"),
     "lease_first": Part("a reader asks the database before it asks for the lease", "one"),

@@ -33,7 +33,8 @@ def search(model: Model, most: int) -> Found:
                 values += any(item.value is not None for item in after.server.items)
                 wrong = model.wrong(after)
                 if wrong:
-                    return Found(wrong, True, len(before), values, taken, process_time() - began, way_to(model, before, after))
+                    seconds, way = process_time() - began, way_to(model, before, after)
+                    return Found(wrong, True, len(before), values, taken, seconds, way)
                 following.append(after)
         layer = following
     return Found(None, not layer, len(before), values, taken, process_time() - began, [])

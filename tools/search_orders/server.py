@@ -103,8 +103,8 @@ def of_session(item: Item, session: Session, rules: Rules) -> Quarantine | None:
 
 
 def release(server: Server, key: int, session: Session, how: How, value: int, rules: Rules) -> Server | None:
-    """`keep`, `dar`, `sar` and the shifts: nothing where the quarantine stands no longer (Gone), or is of another mode.
-    `value` is what is put, or the bit that a shift adds."""
+    """`keep`, `dar`, `sar` and the shifts: nothing where the session has no quarantine there (Gone), or has one of
+    another mode. `value` is what is put, or the bit that a shift adds."""
     item = server.items[key]
     ended = of_session(item, session, rules)
     if ended is None or (ended.is_joint and how in ("put", "shift")):
@@ -126,7 +126,7 @@ def over(server: Server, key: int, session: Session, rules: Rules) -> Server | N
 
 
 def lose_value(server: Server, key: int) -> Server:
-    """`delete`, room, a time that is over, or a quarantine past its deadline: the value and the lease go. Quarantines stay."""
+    """`delete`, want of room, or a time that is over: the value and the lease go, quarantines stay."""
     return with_item(server, key, Item(None, None, server.items[key].quarantines))
 
 

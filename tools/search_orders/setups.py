@@ -14,17 +14,13 @@ class Write:
 
 @dataclass(frozen=True)
 class Setup:
-    """`writers` has the keys of each; each runs one transaction. `readers` has the key of each, which it reads so many
-    `rounds`. The server may restart so often, there are so many clients that open it, and so many words of writers come
-    twice. The number of a writer's session in its life is its place, where `numbers` doesn't say another."""
-
-    writers: tuple[tuple[Write, ...], ...]
-    readers: tuple[int, ...] = (0,)
-    rounds: int = 1
-    restarts: int = 0
-    openers: int = 0
-    copies: int = 0
-    numbers: tuple[int, ...] = (1, 2, 3)
+    writers: tuple[tuple[Write, ...], ...]  # what each does in its one transaction
+    readers: tuple[int, ...] = (0,)  # the key of each
+    rounds: int = 1  # so often each reads it
+    restarts: int = 0  # of the server, at most
+    openers: int = 0  # clients that open it, each once at most
+    copies: int = 0  # words of writers to the server that arrive once more, at most
+    numbers: tuple[int, ...] = (1, 2, 3)  # of each writer's session, in its life
 
 
 def invalidates(*keys: int) -> tuple[Write, ...]:
@@ -62,10 +58,14 @@ MIDDLE: dict[str, Setup] = {
 # Searched by --long, besides.
 LONG: dict[str, Setup] = {
     "two keys, two readers": Setup((invalidates(0, 1), refreshes(1)), readers=(0, 1)),
-    "invalidate twice": Setup((invalidates(0), invalidates(0)), rounds=2, restarts=1, openers=1),
-    "refresh, invalidate": Setup((refreshes(0), invalidates(0)), rounds=2, restarts=1, openers=1),
-    "shift, refresh": Setup((shifts(0), refreshes(0)), rounds=2, restarts=1, openers=1),
+    "both modes in one": Setup((refreshes(0) + invalidates(1), shifts(1)), readers=(0, 1)),
+    "three writers": Setup((refreshes(0), invalidates(0), shifts(0))),
+    "refresh, a restart": Setup((refreshes(0), invalidates(0)), rounds=2, restarts=1, openers=1),
+    "shift, a restart": Setup((shifts(0), refreshes(0)), rounds=2, restarts=1, openers=1),
+    "late words, a restart": Setup((refreshes(0), invalidates(0)), restarts=1, openers=1, copies=2),
     "two restarts": Setup((invalidates(0),), readers=(0, 0), restarts=2, openers=2),
+    "three openers": Setup((invalidates(0),), restarts=2, openers=3),
+    "two of each, a restart": Setup((invalidates(0), invalidates(0)), readers=(0, 0), restarts=1, openers=1),
 }
 
 SETUPS = QUICK | MIDDLE | LONG

@@ -46,13 +46,19 @@ Step = tuple[str, State]
 Steps = Iterator[Step]
 
 
+def touching(setup: Setup, key: int) -> int:
+    """The transactions that change this key's answer, as bits."""
+    return sum(1 << i for i, writes in enumerate(setup.writers) if any(it.key == key for it in writes))
+
+
 class Model:
+    """Who takes part, and by which rules."""
+
     def __init__(self, setup: Setup, rules: Rules) -> None:
         self.setup = setup
         self.rules = rules
         self.keys = 1 + max(write.key for writes in setup.writers for write in writes)
-        # of each key: the transactions that change its answer, as bits
-        self.touching = [sum(1 << i for i, keys in enumerate(setup.writers) if any(it.key == key for it in keys)) for key in range(self.keys)]
+        self.touching = [touching(setup, key) for key in range(self.keys)]
 
     def start(self) -> State:
         """Server and database are in life 1, nothing is cached, and nobody has begun."""
