@@ -1,8 +1,8 @@
 """Searches every order of steps of readers, writers, a cache server and a site's own database for a stale value.
 
-    python3 tools/search_orders            with all parts of the design in, and without each part: under a minute
-    python3 tools/search_orders --quick    small bounds alone, and no ways: some seconds
-    python3 tools/search_orders --long     greater bounds besides: some minutes, and 2 GB of memory
+    python3 tools/search_orders            with all parts of the design in, and without each part: some 15 seconds
+    python3 tools/search_orders --quick    small bounds alone, and no ways: some 7 seconds
+    python3 tools/search_orders --long     greater bounds besides: some 6 minutes, and 0.7 GB of memory
     python3 tools/search_orders PART ..    without these parts, one at a time, with the way to a wrong value
 
 docs/model.md says what this is a model of. With all parts in, each state has to be looked at, and no value be wrong.
