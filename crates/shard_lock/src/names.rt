@@ -25,7 +25,7 @@ pub trait HubName: Ledger {
 }
 
 impl HubName for Brand {
-    ghost use Rattle.std.specs.Prelude.{[], None};
+    ghost use Rattle.std.specs.Prelude.{[], false, None};
 
     ghost terms = { λ no. record { no = no; count = 1; room = 1; life = 1; first = 1; rolls = false } };
 
