@@ -33,7 +33,7 @@ use Rattle.door_workers.specs.Attending.{HaveEnds, IsEnough}
 use Rattle.top_run.specs.declared.serves.Begun.{Begun}
 use Rattle.top_run.specs.Begins.{Beginning, BeginsAs, Files, FilesSeen}
 use Rattle.top_run.specs.Saves.{HasText}
-use Rattle.top_run.specs.Serves.{serve_shape, serve_keep, serve_text, line_count}
+use Rattle.top_run.specs.Serves.{serve_shape, serve_rolls, serve_text, line_count}
 use Rattle.top_run.specs.Warms.{HaveTakenOver, HitsHaveValues, rows_in}
 use Rattle.top_run.specs.Works.{IsLeft, IsSummarized, hub_terms, work_shape}
 
@@ -132,7 +132,7 @@ pub record IsDoneServer (spec : ServeSpec) (taken_old taken_new : Option (List �
   pub begins_as : BeginsAs spec.warm spec.shards (known_of files_before files_after opening rows failed) begun
   pub prints : Prints taken_old taken_new (serve_text begun (line_count lines)) written
   pub as_many : length left.histories ≡ spec.shards
-  pub legal : (place : ℕ) (history : List Step) → slice_get left.histories place ≡ Some history → IsLeft (serve_shape spec) serve_keep place history
+  pub legal : (place : ℕ) (history : List Step) → slice_get left.histories place ≡ Some history → IsLeft (serve_shape spec) serve_rolls place history
 
 -- A dump is right for the shard of this number, of which a server leaves the last steps of a legal history beside this log: it has the
 -- rows that this history says are still right, and each value is its key's answer on the rows after the log.
@@ -140,7 +140,7 @@ pub record IsRightDump (spec : ServeSpec) (opening : Tables) (log : List Commit)
   pub steps : List Step
   pub is_left : slice_get histories place ≡ Some steps
   pub given_up : List Step
-  pub legal : Legal (hub_terms (serve_shape spec) serve_keep place) (given_up ++ steps)
+  pub legal : Legal (hub_terms (serve_shape spec) serve_rolls place) (given_up ++ steps)
   pub rows_are : dump.rows ≡ rows_in log (given_up ++ steps)
   pub right : All (λ row. row.value ≡ answer row.key (rows_after opening log)) dump.rows
 
