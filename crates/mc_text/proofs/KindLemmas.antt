@@ -131,7 +131,7 @@ served word digits kind id e h =
     }
 
 -- digits may stand in a key
-digit_bytes : (text : List ℕ) → list_all is_digit text ≡ true → list_all is_key_byte text ≡ true
+pub digit_bytes : (text : List ℕ) → list_all is_digit text ≡ true → list_all is_key_byte text ≡ true
 digit_bytes [] all = refl
 digit_bytes (d ∷ ds) all =
     let parts = and_parts (is_digit d) (list_all is_digit ds) all in

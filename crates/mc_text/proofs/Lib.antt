@@ -10,7 +10,9 @@ pub mod VerbLemmas
 pub mod TxnLemmas
 pub mod OnceLemmas
 pub mod FrontLemmas
+pub mod RoomLemmas
 pub mod LineLemmas
+pub mod LookupLemmas
 pub mod PlainWordLemmas
 pub mod PlainTextLemmas
 pub mod PlainLineLemmas

@@ -9,8 +9,10 @@ pub mod PlainLines
 pub mod PlainParts
 pub mod Streams
 pub mod Replies
+pub mod ReplyParts
 pub mod PlainReplies
 pub mod Framing
 pub mod Parsing
 pub mod Telling
+pub mod Lookups
 pub mod Laws

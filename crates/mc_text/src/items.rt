@@ -16,7 +16,7 @@ use rows_model::{Memory, Value};
 use std::alloc::Global;
 
 // The most bytes of a line, without its CR LF, and of a block.
-const LONGEST_LINE: usize = 2_048;
+pub(crate) const LONGEST_LINE: usize = 2_048;
 
 const BIGGEST_BLOCK: u64 = 1_048_576;
 

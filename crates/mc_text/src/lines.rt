@@ -139,9 +139,7 @@ fn role_of(word: &[u8]) -> Option<Role>
     }
 }
 
-/// What the words behind `iqget` say.
-#[inline(always)]
-pub fn iqget_of(args: &[u8]) -> Option<Command>
+fn iqget_of(args: &[u8]) -> Option<Command>
     ensures found { IfSome result (λ command. IsSaid lease.IqGet (words_in args.now) command) }
     ensures none { IfNone result (IsUnsaid lease.IqGet (words_in args.now)) }
 {

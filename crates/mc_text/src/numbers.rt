@@ -13,9 +13,9 @@ const LONGEST_KEY: usize = 250;
 
 // The greatest id that a member can have. No key beyond it is served, since each key that is missed and
 // never set has a lease for good: so they are bounded.
-const LAST_ID: u64 = 100_000;
+pub(crate) const LAST_ID: u64 = 100_000;
 
-const MOST_DIGITS: usize = 20;
+pub(crate) const MOST_DIGITS: usize = 20;
 
 /// The key of the cache that the word is, if it is one whose id a member can have; `None` where it may not
 /// be a key at all.

@@ -1,7 +1,9 @@
 ghost use Rattle.std.specs.Prelude.{◌≡◌, [], ◌++◌, decimal, codes, OnOk, OnErr, IfOk};
 ghost use Rattle.rows_model.specs.Key.{word_of, key_text};
+ghost use Rattle.mc_text.specs.ReplyParts.{lines_text};
 ghost use Rattle.mc_text.specs.Replies.{text_of, line, value_text, stamped_text, value_head, block_text, mode_word, BeginsWith};
 
+use crate::number_lines::push_numbers;
 use itoa::Buffer;
 use lease_table::Mode;
 use rows_model::{Kind, Memory, QKey, Sid, Value};
@@ -221,10 +223,9 @@ fn push_stamped(out: &mut Vec<u8>, key: QKey, stamp: u64, value: &Value) -> Resu
     ensures ok { OnOk result (out.new.items ≡ out.old.items ++ stamped_text key stamp value.now) }
     ensures err { OnErr result (BeginsWith out.old.items out.new.items) }
 {
-    push_value_head(out, key, value.bytes().len())?;
-    out.push(b' ')?;
-    push_decimal(out, stamp)?;
-    push_block(out, value.bytes())
+    push_value_kind(out, key.kind)?;
+    push_numbers(out, key.id, value.bytes().len(), stamp)?;
+    push_lines(out, value.bytes())
 }
 
 // A value without a stamp.
@@ -277,6 +278,15 @@ fn push_block(out: &mut Vec<u8>, block: &[u8]) -> Result<(), AllocError>
     ensures err { OnErr result (BeginsWith out.old.items out.new.items) }
 {
     out.extend_from_slice(b"\r\n")?;
+    push_lines(out, block)
+}
+
+// The lines behind the first one of a value.
+#[inline(always)]
+fn push_lines(out: &mut Vec<u8>, block: &[u8]) -> Result<(), AllocError>
+    ensures ok { OnOk result (out.new.items ≡ out.old.items ++ lines_text block.now) }
+    ensures err { OnErr result (BeginsWith out.old.items out.new.items) }
+{
     out.extend_from_slice(block)?;
     out.extend_from_slice(b"\r\nEND\r\n")
 }

@@ -24,7 +24,7 @@ use Rattle.mc_text.specs.declared.faults.FrameFault.{FrameFault}
 use Rattle.mc_text.specs.declared.faults.FrameFault.TheVariants as frame
 use Rattle.mixed_lines.specs.Fronts.{Takes, Faults}
 use Rattle.mixed_lines.specs.Items.{IsNoPlainLine, IsWhole, IsHeaded, IsWithBlock, IsBadPlain, HasBigPlain, HasBadPlain, AwaitsBlock}
-use Rattle.mixed_lines.specs.Items.{command, plain, bad_line, IsFirst}
+use Rattle.mixed_lines.specs.Items.{command, plain, bad_line, long_line, bad_block, big_block, IsFirst, IsOpen}
 use Rattle.mixed_lines.proofs.ItemLemmas.{first_once}
 
 -- a lease command is taken, where no line of a plain one stands
@@ -124,20 +124,30 @@ bad_taken old new taken bad is = record { taken = taken; stands = inr bad; goes_
 no_plain : (verb : LeaseVerb) (v : PlainVerb) → lease_text verb ≡ text_of v → ⊥
 no_plain verb v e = let same : Lease verb ≡ Plain v = verb_once (Lease verb) (Plain v) e in absurd cc
 
--- a lookup that the first line says
-pub lookup_stands : (stream : List ℕ) (long : ℕ) (args : List (List ℕ)) (said : Command) → leases.IsLine stream long
-    → words_in (take long stream) ≡ lease_text lease.IqGet ∷ args → IsSaid lease.IqGet args said → IsFirst stream (command said) (long + 2)
-lookup_stands stream long args said line words s = by said s.verb_is s.args
+-- a lookup that stands first by the grammar of lease commands
+pub lookup_stands : (stream : List ℕ) (said : Command) (taken : ℕ) → leases.IsCommand stream said taken → verb_of said ≡ Some lease.IqGet
+    → IsFirst stream (command said) taken
+lookup_stands stream said taken c is = (c, by said is (words_in (take c.long stream)) refl c.says)
   where
-    by : (x : Command) → verb_of x ≡ Some lease.IqGet → AreArgs x args → IsFirst stream (command x) (long + 2)
-    by (IqGet key sid floor) is at = (
-      record {
-        long = long;
-        line = line;
-        says = subst (λ (ws : List (List ℕ)). AreWords (IqGet key sid floor) ws) (sym words) (refl, at);
-        block = refl;
-        taken_is = omega arith;
-      },
-      no_verb stream long (lease_text lease.IqGet) args line words (no_plain lease.IqGet),
-    )
-    by other is at = absurd cc
+    by : (x : Command) → verb_of x ≡ Some lease.IqGet → (words : List (List ℕ)) → words_in (take c.long stream) ≡ words → AreWords x words
+        → IsNoPlainLine stream
+    by (IqGet key sid floor) at [] e says = absurd says
+    by (IqGet key sid floor) at (word ∷ rest) e says =
+        no_verb stream c.long word rest c.line e (λ v same. no_plain lease.IqGet v (sym says.0 ∙ same))
+    by other at words e says = absurd cc
+
+-- nothing stands in a stream that has no byte
+no_line_in : (stream : List ℕ) (long : ℕ) → length stream ≡ 0 → leases.IsLine stream long → ⊥
+no_line_in stream long none line = let whole = line.ends.whole in absurd (omega arith)
+
+pub nothing_stands : (stream : List ℕ) → length stream ≡ 0 → IsOpen stream
+nothing_stands stream none (command said) taken h = no_line_in stream h.0.long none h.0.line
+nothing_stands stream none (plain said noreply) taken (inl h) = no_line_in stream h.long none h.line.line
+nothing_stands stream none (plain said noreply) taken (inr h) = no_line_in stream h.long none h.line.line.line
+nothing_stands stream none bad_line taken (inl h) = no_line_in stream h.0.long none h.0.line
+nothing_stands stream none bad_line taken (inr h) = no_line_in stream h.long none h.line.line
+nothing_stands stream none long_line taken h = let enough = h.0.0.enough in absurd (omega arith)
+nothing_stands stream none bad_block taken (inl h) = no_line_in stream h.0.0.long none h.0.0.line.line
+nothing_stands stream none bad_block taken (inr h) = no_line_in stream h.0.long none h.0.line.line.line
+nothing_stands stream none big_block taken (inl h) = no_line_in stream h.0.0.long none h.0.0.line.line
+nothing_stands stream none big_block taken (inr h) = no_line_in stream h.0.long none h.0.line.line.line

@@ -1,4 +1,6 @@
 // The commands of a stream, lease commands and plain ones.
+ghost use Rattle.std.specs.Prelude.{◌≡◌, true};
+ghost use Rattle.mixed_lines.specs.Items.{IsOpen};
 ghost use Rattle.mixed_lines.specs.Fronts.{Reads};
 
 use crate::fronts::{MixedFront, mixed_front};
@@ -20,6 +22,9 @@ pub enum Said {
 pub fn next_said(framer: &mut Framer) -> Result<Option<Said>, FrameFault>
     ensures { Reads framer.old result framer.new }
 {
+    if is_spent(framer) {
+        return Ok(None);
+    }
     let place = framer.place();
     match mixed_front(framer.alloc(), framer.rest()) {
         Ok(MixedFront::Command { said, taken }) => {
@@ -36,4 +41,12 @@ pub fn next_said(framer: &mut Framer) -> Result<Option<Said>, FrameFault>
         Ok(MixedFront::Open) => Ok(None),
         Err(Memory) => Err(FrameFault::Memory),
     }
+}
+
+/// Whether all that a framer was fed is taken: nothing stands next then.
+#[inline(always)]
+fn is_spent(framer: &Framer) -> bool
+    ensures { result ≡ true → IsOpen framer.now.rest }
+{
+    framer.rest().is_empty()
 }
