@@ -1,5 +1,5 @@
 -- What is read of a stream.
-use Rattle.std.proofs.Common.{ℕ, ◌+◌, ◌≡◌, ◌<◌, ◌≤◌, ◌⊎◌, inl, inr, Bool, List, [], ◌∷◌, length, take, drop, Some, arith, refl, sym, ap, subst, ◌∙◌}
+use Rattle.std.proofs.Common.{ℕ, ◌+◌, ◌≡◌, ◌<◌, ◌≤◌, ◌⊎◌, inl, inr, Bool, List, [], ◌∷◌, length, take, drop, Some, arith, refl, sym, ap, ◌∙◌}
 use Rattle.mc_text.specs.Words.{words_in}
 use Rattle.mc_text.specs.Telling.{IsEndless}
 use Rattle.mc_text.specs.PlainVerbs.{text_of}
@@ -11,8 +11,7 @@ use Rattle.mc_text.proofs.FrontLemmas.{line_once}
 use Rattle.mc_text.specs.Framing as framing
 use Rattle.mc_text.specs.Framing.{Frames}
 use Rattle.mc_text.specs.Streams as leases
-use Rattle.mc_text.specs.Commands.{verb_of, AreArgs, AreWords}
-use Rattle.mc_text.specs.Parsing.{IsSaid}
+use Rattle.mc_text.specs.Commands.{verb_of, AreWords}
 use Rattle.mc_text.specs.Verbs.{lease_text}
 use Rattle.mc_text.specs.declared.commands.Command.{Command}
 use Rattle.mc_text.specs.declared.commands.Command.TheVariants.{IqGet}
