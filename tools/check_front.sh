@@ -85,21 +85,21 @@ check_unproved() {
     count "./iq without words, a source being changed" $?
 }
 
-# A clone as it comes runs the program of dist/ at once.
+# A clone as it comes runs the program of dist/ at once: it compiles and builds nothing, of which it would say so. No
+# time is taken here, since other work may keep the processor busy.
 check_clone() {
-    began=$(date +%s)
     run_iq "$work/clone" examples/stale_refill.iq replay
-    ended 0 examples/stale_refill.out "" && [ $(($(date +%s) - began)) -le 5 ] && ! says_unproved
-    count "./iq replay in a new clone, within 5 seconds" $?
+    ended 0 examples/stale_refill.out "" && ! says_unproved
+    count "./iq replay in a new clone, with nothing built" $?
     rm -rf "$work/clone/out"
     began=$(date +%s)
     "$work/clone/iq" serve 127.0.0.1:0 1 1 1 3 >"$work/out" 2>"$work/err" &
     server=$!
-    until grep -q '^ready$' "$work/out" || [ $(($(date +%s) - began)) -gt 5 ]; do
+    until grep -q '^ready$' "$work/out" || [ -s "$work/err" ] || [ $(($(date +%s) - began)) -gt 60 ]; do
         sleep 0.1
     done
-    grep -q '^ready$' "$work/out"
-    count "./iq serve in a new clone says ready within 5 seconds" $?
+    grep -q '^ready$' "$work/out" && [ ! -s "$work/err" ]
+    count "./iq serve in a new clone says ready, with nothing built" $?
     kill "$server" 2>/dev/null
 }
 

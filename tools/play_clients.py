@@ -15,7 +15,9 @@ import subprocess
 import sys
 import time
 
-PATIENCE = 20
+from free_ports import free_port
+
+PATIENCE = 60
 
 
 def conversations(page):
@@ -39,8 +41,7 @@ class Server:
     """A server at a port that was free a moment ago."""
 
     def __init__(self, program, numbers, descriptors=None):
-        with socket.create_server(("127.0.0.1", 0)) as probe:
-            self.port = probe.getsockname()[1]
+        self.port = free_port()
         self.process = subprocess.Popen(
             [program, "serve", f"127.0.0.1:{self.port}", *map(str, numbers)],
             stdout=subprocess.PIPE,

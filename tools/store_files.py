@@ -9,6 +9,8 @@ import sys
 import tempfile
 from contextlib import closing
 
+from free_ports import free_port
+
 PATIENCE = 60
 NOBODY = 65534
 
@@ -149,8 +151,7 @@ class Server:
     file of its cache."""
 
     def __init__(self, program, path, members=3, workers=1, most=None, warm=None, shards=1, conns=1000, user=None):
-        with socket.create_server(("127.0.0.1", 0)) as probe:
-            self.port = probe.getsockname()[1]
+        self.port = free_port()
         options = [*(["--db", path] if path else []), *(["--warm", warm] if warm else [])]
         words = [f"127.0.0.1:{self.port}", conns, workers, shards, members]
         self.process = subprocess.Popen(
