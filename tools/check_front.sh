@@ -85,6 +85,23 @@ check_unproved() {
     count "./iq without words, a source being changed" $?
 }
 
+# Where a source was changed, what needs threads, connections or files proves and builds. The rt here says what it was
+# told, and fails.
+check_builds() {
+    mkdir "$work/failing"
+    printf '#!/bin/sh\necho "$*" >>"%s"\nexit 1\n' "$work/asked" >"$work/failing/rt"
+    chmod +x "$work/failing/rt"
+    found=$PATH
+    for words in "work 3 0 1 1 1" "warm 3 0 1 1 1" "serve 127.0.0.1:0 1 1 1 3" "replay --db rows.db"; do
+        : >"$work/asked"
+        PATH=$work/failing:$found
+        run_iq "$work/changed" /dev/null $words
+        PATH=$found
+        [ "$status" = 70 ] && [ "$(cat "$work/asked")" = ci ] && ! says_unproved
+        count "./iq $words proves and builds, a source being changed" $?
+    done
+}
+
 # A clone as it comes runs the program of dist/ at once: it compiles and builds nothing, of which it would say so. No
 # time is taken here, since other work may keep the processor busy.
 check_clone() {
@@ -199,6 +216,7 @@ tar --exclude=out -cf - iq crates.txt crates tools dist HANDLES | (cd "$work/cha
 printf '\n' >>"$work/changed/crates/iq/src/main.rt"
 check_clone
 check_spoilt
+check_builds
 check_cases
 check_unproved
 check_proved
