@@ -127,6 +127,28 @@ class Broken(unittest.TestCase):
                 connection.call(lots)
             self.assertTrue(connection.is_closed)
 
+    def test_the_end_beside_a_server_that_hangs_is_quick(self) -> None:
+        steps = [("begin write", "SESSION 1"), ("iqabort 1", Hang(""))]
+        with FakeServer(steps) as server:
+            connection = Connection.open(server.address, PATIENT)
+            connection.begin(Role.WRITE)
+            began = time.monotonic()
+            connection.give_up()
+            self.assertTrue(connection.is_closed)
+            self.assertLess(time.monotonic() - began, PATIENCE / 2)
+
+    def test_the_end_beside_a_server_that_takes_no_bytes_is_quick(self) -> None:
+        with socket.create_server(("127.0.0.1", 0)) as deaf:
+            connection = Connection.open(deaf.getsockname(), PATIENT)
+            connection._sock.settimeout(0)
+            with self.assertRaises(BlockingIOError):
+                while True:
+                    connection._sock.send(b"x" * 65536)
+            began = time.monotonic()
+            connection.quit()
+            self.assertTrue(connection.is_closed)
+            self.assertLess(time.monotonic() - began, PATIENCE / 2)
+
     def test_it_ends_the_connection_with_its_block(self) -> None:
         with FakeServer([BEGIN]) as server:
             with Connection.open(server.address) as connection:

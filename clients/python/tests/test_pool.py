@@ -132,27 +132,51 @@ class ComingBack(unittest.TestCase):
             sleep.assert_not_called()
 
     def test_given_up_when_the_time_is_over(self) -> None:
-        def lend() -> None:
+        def lend(pool: Pool) -> None:
             with pool.lend():
                 pass
 
-        with Pool(("127.0.0.1", free_port()), backoff=Backoff(first=0.05, total=0.4)) as pool:
-            calls: List[Callable[[], object]] = [
-                lambda: pool.read("profile:2"),
-                lambda: pool.write("rename 2 bob"),
-                lend,
-            ]
-            for call in calls:
-                with mock.patch("random.uniform", return_value=1.0), mock.patch("silamoven.waits.sleep") as sleep:
+        calls: List[Callable[[Pool], object]] = [
+            lambda pool: pool.read("profile:2"),
+            lambda pool: pool.write("rename 2 bob"),
+            lend,
+        ]
+        still = mock.patch("silamoven.waits.monotonic", return_value=0.0)
+        for call in calls:
+            with Pool(("127.0.0.1", free_port()), backoff=Backoff(first=0.05, total=0.4)) as pool:
+                with still, mock.patch("random.uniform", return_value=1.0), mock.patch("silamoven.waits.sleep") as sleep:
                     with self.assertRaises(ConnectError):
-                        call()
+                        call(pool)
                 self.assertEqual([each.args[0] for each in sleep.call_args_list], [0.05, 0.1, 0.2])
+
+    def test_one_waits_for_a_server_that_is_gone_and_the_others_do_not(self) -> None:
+        port = free_port()
+        with Pool(("127.0.0.1", port)) as pool:
+            with mock.patch("silamoven.waits.sleep") as sleep:
+                for _ in range(3):
+                    with self.assertRaises(ConnectError):
+                        pool.read("profile:2")
+                    self.assertTrue(0 < len(sleep.call_args_list) <= 8)
+                waits = len(sleep.call_args_list)
+                with FakeServer([READ, HIT], port=port) as server:
+                    pool.read("profile:2")
+                    server.stop()
+                self.assertEqual(len(sleep.call_args_list), waits)
+                # It was there, so the next one waits again.
+                with self.assertRaises(ConnectError):
+                    pool.read("profile:2")
+                self.assertGreater(len(sleep.call_args_list), waits)
+
+    def test_tries_that_take_long_count(self) -> None:
+        with mock.patch("silamoven.waits.monotonic", side_effect=[100.0, 100.0, 101.0, 101.96]):
+            self.assertEqual(len(list(Backoff(first=0.05, total=2.0).waits())), 2)
 
     def test_lost_every_time(self) -> None:
         lost = [("begin read", Cut(""))]
         with FakeServer(lost, lost, lost) as server:
             with Pool(server.address, backoff=Backoff(first=0.01, factor=1.0, total=0.0205)) as pool:
-                with mock.patch("random.uniform", return_value=1.0):
+                still = mock.patch("silamoven.waits.monotonic", return_value=0.0)
+                with still, mock.patch("random.uniform", return_value=1.0):
                     with self.assertRaises(ConnectionLostError):
                         pool.read("profile:2")
 
