@@ -156,7 +156,27 @@ check_proved() {
     run_iq "$top" "$work/faulty" replay
     ended 2 /dev/null 'script line 1 form\n'
     count "a faulty script, proved" $?
+    check_help
     check_served
+}
+
+# The help of each command names its own words and options, and that of all names each command.
+check_help() {
+    run_iq "$top" /dev/null --help
+    cp "$work/out" "$work/all"
+    while read -r command options words; do
+        run_iq "$top" /dev/null "$command" --help
+        found=$(sed -n -e "s/^Usage: $command //p" "$work/out" | tr -d '<>')
+        listed=$(sed -n -e 's/^ *\(-., \)\{0,1\}\(--[a-z]*\).*/\2/p' "$work/out" | tr '\n' ',')
+        wanted=$(echo "[OPTIONS] $words" | sed 's/ $//')
+        [ "$status" = 0 ] && [ "$found" = "$wanted" ] && [ "$listed" = "$options," ] && grep -q "^  $command " "$work/all"
+        count "./iq $command --help" $?
+    done <<END
+replay --db,--help
+work --db,--help members sessions workers shards seed
+warm --db,--help members sessions workers shards seed
+serve --db,--warm,--help addr conns workers shards members
+END
 }
 
 # Clients over the loopback, the page's conversations among them.
