@@ -85,21 +85,38 @@ check_unproved() {
     count "./iq without words, a source being changed" $?
 }
 
-# A clone as it comes runs the program of dist/ at once.
+# Where a source was changed, what needs threads, connections or files proves and builds. The rt here says what it was
+# told, and fails.
+check_builds() {
+    mkdir "$work/failing"
+    printf '#!/bin/sh\necho "$*" >>"%s"\nexit 1\n' "$work/asked" >"$work/failing/rt"
+    chmod +x "$work/failing/rt"
+    found=$PATH
+    for words in "work 3 0 1 1 1" "warm 3 0 1 1 1" "serve 127.0.0.1:0 1 1 1 3" "replay --db rows.db"; do
+        : >"$work/asked"
+        PATH=$work/failing:$found
+        run_iq "$work/changed" /dev/null $words
+        PATH=$found
+        [ "$status" = 70 ] && [ "$(cat "$work/asked")" = ci ] && ! says_unproved
+        count "./iq $words proves and builds, a source being changed" $?
+    done
+}
+
+# A clone as it comes runs the program of dist/ at once: it compiles and builds nothing, of which it would say so. No
+# time is taken here, since other work may keep the processor busy.
 check_clone() {
-    began=$(date +%s)
     run_iq "$work/clone" examples/stale_refill.iq replay
-    ended 0 examples/stale_refill.out "" && [ $(($(date +%s) - began)) -le 5 ] && ! says_unproved
-    count "./iq replay in a new clone, within 5 seconds" $?
+    ended 0 examples/stale_refill.out "" && ! says_unproved
+    count "./iq replay in a new clone, with nothing built" $?
     rm -rf "$work/clone/out"
     began=$(date +%s)
     "$work/clone/iq" serve 127.0.0.1:0 1 1 1 3 >"$work/out" 2>"$work/err" &
     server=$!
-    until grep -q '^ready$' "$work/out" || [ $(($(date +%s) - began)) -gt 5 ]; do
+    until grep -q '^ready$' "$work/out" || [ -s "$work/err" ] || [ $(($(date +%s) - began)) -gt 60 ]; do
         sleep 0.1
     done
-    grep -q '^ready$' "$work/out"
-    count "./iq serve in a new clone says ready within 5 seconds" $?
+    grep -q '^ready$' "$work/out" && [ ! -s "$work/err" ]
+    count "./iq serve in a new clone says ready, with nothing built" $?
     kill "$server" 2>/dev/null
 }
 
@@ -139,7 +156,27 @@ check_proved() {
     run_iq "$top" "$work/faulty" replay
     ended 2 /dev/null 'script line 1 form\n'
     count "a faulty script, proved" $?
+    check_help
     check_served
+}
+
+# The help of each command names its own words and options, and that of all names each command.
+check_help() {
+    run_iq "$top" /dev/null --help
+    cp "$work/out" "$work/all"
+    while read -r command options words; do
+        run_iq "$top" /dev/null "$command" --help
+        found=$(sed -n -e "s/^Usage: $command //p" "$work/out" | tr -d '<>')
+        listed=$(sed -n -e 's/^ *\(-., \)\{0,1\}\(--[a-z]*\).*/\2/p' "$work/out" | tr '\n' ',')
+        wanted=$(echo "[OPTIONS] $words" | sed 's/ $//')
+        [ "$status" = 0 ] && [ "$found" = "$wanted" ] && [ "$listed" = "$options," ] && grep -q "^  $command " "$work/all"
+        count "./iq $command --help" $?
+    done <<END
+replay --db,--help
+work --db,--help members sessions workers shards seed
+warm --db,--help members sessions workers shards seed
+serve --db,--warm,--help addr conns workers shards members
+END
 }
 
 # Clients over the loopback, the page's conversations among them.
@@ -199,6 +236,7 @@ tar --exclude=out -cf - iq crates.txt crates tools dist HANDLES | (cd "$work/cha
 printf '\n' >>"$work/changed/crates/iq/src/main.rt"
 check_clone
 check_spoilt
+check_builds
 check_cases
 check_unproved
 check_proved

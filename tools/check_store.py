@@ -13,6 +13,7 @@ import shutil
 import sqlite3
 import subprocess
 import sys
+import threading
 from contextlib import closing
 
 import kill_store
@@ -27,6 +28,7 @@ from store_files import (
 TOP = os.path.dirname(os.path.dirname(os.path.abspath(__file__)))
 KILLS = 5
 KILL_SEED = 33
+COPIES = 8
 NOTHING = "members 3\nend\n"
 NOTHING_TOLD = "end commits 0 hits 0 stores 0 agains 0\n"
 REFUSED = ("", "store fault\n", 6)
@@ -325,6 +327,101 @@ def backed_up(folder):
         expect_answers(folder.program, folder.path(name), CHANGED_ANSWERS)
 
 
+def copied_while_it_runs(folder):
+    """The rows of a server that commits without pause, copied by tools/copy_rows: sound each time, with each commit that a
+    client could see before, and none that isn't there behind."""
+    path = folder.path()
+    with Server(folder.program, path, kill_store.MEMBERS, workers=2).ready() as server:
+        with Client(server) as writer, Client(server) as reader:
+            work = threading.Thread(target=kill_store.commit_on, args=(writer, 1))
+            work.start()
+            for number in range(COPIES):
+                before = last_in(kill_store.found_names(reader))
+                place = folder.path(f"copy{number}")
+                words = [os.path.join(TOP, "tools", "copy_rows"), path, place]
+                expect(subprocess.run(words, capture_output=True, timeout=60, check=False).stderr, b"")
+                members, links = rows(os.path.join(place, "store.db"))
+                names = [name for _, name in members]
+                found = last_in(names)
+                expect(names, kill_store.names_after(found))
+                behind = last_in(kill_store.found_names(reader))
+                if not before <= found <= behind or links:
+                    raise Wrong(f"{found} commits in a copy, {before} before it and {behind} behind it")
+            server.kill()
+            work.join(60)
+    if behind < COPIES:
+        raise Wrong(f"{behind} commits beside {COPIES} copies")
+    expect_answers(folder.program, os.path.join(place, "store.db"), {f"profile:{kill_store.MEMBERS + 1}": "-"})
+
+
+def last_in(names):
+    """The last transaction of tools/kill_store.py that gave one of these names."""
+    return max([int(name[1:]) for name in names if name.startswith("c")], default=0)
+
+
+def old_file_and_new_log(folder):
+    """An older file beside the log of a newer one isn't told from the rows of one time: the page says so. Each member has
+    the name of the file or of the log."""
+    path, old = folder.path(), folder.path("old.db")
+    replay(folder.program, path, "members 3000\nend\n")
+    shutil.copy(path, old)
+    for member, name in ((1, "early"), (2500, "late")):
+        with Server(folder.program, path, 3000).ready() as server, Client(server) as client:
+            session = client.begin("write")
+            client.send([f"qareg profile:{member} {session}", f"sql {session} rename {member} {name}"])
+            expect([client.reply()[:9], client.reply()[:9]], ["GRANTED 1", "COMMITTED"])
+        if member == 1:
+            replay(folder.program, path, NOTHING)
+    shutil.copy(path + "-wal", old + "-wal")
+    expect_answers(folder.program, old, {"profile:1": "m1 0 0", "profile:2500": "late 0 0"})
+    expect_answers(folder.program, path, {"profile:1": "early 0 0", "profile:2500": "late 0 0"})
+
+
+def without_its_log(folder):
+    """A file whose log is left behind: a new one is taken for an empty file, and one that was closed once has the rows of
+    then."""
+    path, alone = folder.path(), folder.path("alone.db")
+    for wanted, name in (("m2 0 0", "ann"), ("ann 0 0", "eve")):
+        with Server(folder.program, path).ready() as server, Client(server) as client:
+            client.send(["begin write", "qareg profile:2 1", f"sql 1 rename 2 {name}"])
+            expect([client.reply() for _ in range(3)], ["SESSION 1", "GRANTED 1", "COMMITTED 1"])
+        for suffix in BESIDE:
+            if os.path.exists(alone + suffix):
+                os.remove(alone + suffix)
+        shutil.copy(path, alone)
+        expect_answers(folder.program, alone, {"profile:2": wanted})
+        expect_answers(folder.program, path, {"profile:2": f"{name} 0 0"})
+
+
+def link_to_nothing(folder):
+    """A link that leads to nothing is refused, and nothing is made."""
+    for name, target in (("link", "nothing.db"), ("lost", "nowhere/nothing.db")):
+        os.symlink(target, folder.path(name))
+        expect(run(folder.program, ["replay", "--db", folder.path(name)], NOTHING), REFUSED)
+    expect(sorted(os.listdir(folder.place)), ["link", "lost"])
+
+
+def sizes_of_leftovers(folder):
+    """What a start that is refused leaves beside a file: a log of 0 or 41 bytes, or 9 bytes behind the end of one."""
+    unfit = [unfit_files.MEMBER, unfit_files.LINK, "INSERT INTO member VALUES (0, 'x')"]
+    text, rows_, page = folder.path("text"), folder.made(unfit), folder.path("page")
+    for path in (text, page):
+        with open(path, "wb") as stream:
+            stream.write(b"hello " * 1000 if path == text else bytes(4096))
+    for path, wanted in ((text, 0), (page, 0), (rows_, 41)):
+        expect(run(folder.program, ["replay", "--db", path], NOTHING), REFUSED)
+        expect(os.path.getsize(path + "-wal"), wanted)
+    beside = folder.path("beside.db")
+    with closing(sqlite3.connect(folder.path("live.db"), isolation_level=None)) as conn:
+        conn.execute("PRAGMA journal_mode = WAL")
+        conn.executescript(";".join(unfit) + ";")
+        for suffix in ("", "-wal"):
+            shutil.copy(folder.path("live.db") + suffix, beside + suffix)
+    length = os.path.getsize(beside + "-wal")
+    expect(run(folder.program, ["replay", "--db", beside], NOTHING), REFUSED)
+    expect(os.path.getsize(beside + "-wal"), length + 9)
+
+
 def odd_names(folder):
     """Names that look like something else."""
     path = folder.path()
@@ -471,6 +568,11 @@ RUNS = [
     ("sqlite and the program write in turn", written_in_turn),
     ("a file that was moved with its log", moved),
     ("copies of a file", backed_up),
+    (f"{COPIES} copies while a server runs", copied_while_it_runs),
+    ("an older file beside a newer log", old_file_and_new_log),
+    ("a file without its log", without_its_log),
+    ("a link to nothing", link_to_nothing),
+    ("what a refused start leaves", sizes_of_leftovers),
     ("names that look like something else", odd_names),
     ("paths that look like something else", odd_paths),
     ("nothing is made of faulty words", nothing_made),

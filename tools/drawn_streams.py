@@ -258,6 +258,10 @@ def last(stream):
         stream.sent += b"iqset profile:1 0 0 9 1 0\r\nabc"
 
 
+class Differs(Exception):
+    """What came back isn't what the model tells."""
+
+
 class Talk:
     """A stream and its connection to the server."""
 
@@ -280,7 +284,7 @@ class Talk:
         if not goes_on:
             self.socket.close()
         if found != told:
-            raise SystemExit(f"drawn_streams: to\n{sent!r}\ncame\n{found!r}\nand not\n{told!r}")
+            raise Differs(f"to\n{sent!r}\ncame\n{found!r}\nand not\n{told!r}")
         return goes_on
 
     def pieces(self, count):
@@ -304,8 +308,13 @@ def compare(program, draw, count):
                 talks.append(Talk(draw, model, served))
                 count -= 1
             talk = draw.choice(talks)
-            if not talk.go_on():
-                talks.remove(talk)
+            try:
+                if not talk.go_on():
+                    talks.remove(talk)
+            except Differs as other:
+                # (a lease may have ended in this very step)
+                if time.monotonic() - begun < LIFE - 1:
+                    raise SystemExit(f"drawn_streams: {other}") from None
             if time.monotonic() - begun > LIFE - 1:
                 return False
     finally:

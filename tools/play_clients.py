@@ -15,7 +15,9 @@ import subprocess
 import sys
 import time
 
-PATIENCE = 20
+from free_ports import free_port
+
+PATIENCE = 60
 
 
 def conversations(page):
@@ -38,11 +40,10 @@ def conversations(page):
 class Server:
     """A server at a port that was free a moment ago."""
 
-    def __init__(self, program, numbers, descriptors=None):
-        with socket.create_server(("127.0.0.1", 0)) as probe:
-            self.port = probe.getsockname()[1]
+    def __init__(self, program, numbers, descriptors=None, before=()):
+        self.port = free_port()
         self.process = subprocess.Popen(
-            [program, "serve", f"127.0.0.1:{self.port}", *map(str, numbers)],
+            [*before, program, "serve", f"127.0.0.1:{self.port}", *map(str, numbers)],
             stdout=subprocess.PIPE,
             stderr=subprocess.PIPE,
             preexec_fn=descriptors and (lambda: resource.setrlimit(resource.RLIMIT_NOFILE, (descriptors, descriptors))),
@@ -161,6 +162,53 @@ def unread(program, path):
     play(server.connect(), turns)
     deaf.close()
     server.served(2)
+
+
+def deaf(program, path):
+    """A client that reads nothing is given up behind 30 seconds or twice that, so that another one gets its worker."""
+    _, turns = next(conversations(path))
+    server = Server(program, [2, 1, 1, 3])
+    client = server.connect()
+    client.settimeout(1)
+    try:
+        while True:
+            client.sendall(b"ask profile:2 7\r\n" * 4096)
+    except socket.timeout:
+        pass
+    began, other = time.monotonic(), server.connect()
+    other.settimeout(4 * PATIENCE)
+    play(other, turns)
+    if time.monotonic() - began < 25:
+        raise AssertionError("a client was given up that read nothing for less than 25 seconds")
+    client.close()
+    server.served(2)
+
+
+def unreadable(program, path):
+    """Where a read from a client fails its connection ends. What its session held is given back, and the next is served."""
+    if not may_trace():
+        print("no strace here that can trace, so no read is made to fail")
+        return
+    failing = ["strace", "-f", "-o", os.devnull, "-e", "inject=recvfrom:error=EIO:when=2"]
+    server = Server(program, [2, 1, 1, 3], before=failing)
+    client = server.connect()
+    told = b"SESSION 1\r\nGRANTED 1\r\n"
+    client.sendall(b"begin write\r\nqareg profile:2 1\r\n")
+    expect(receive(client, len(told) + 1), told)
+    client.close()
+    other = server.connect()
+    say(other, [(b"begin read\r\n", b"SESSION 2\r\n"), (b"iqget profile:2 2 0\r\n", b"LEASE 2\r\n")])
+    other.close()
+    server.served(2)
+
+
+def may_trace():
+    """Whether strace is there, and may trace."""
+    try:
+        words = ["strace", "-o", os.devnull, "true"]
+        return subprocess.run(words, stderr=subprocess.DEVNULL, timeout=PATIENCE, check=False).returncode == 0
+    except OSError:
+        return False
 
 
 def broken(program, path):
@@ -314,7 +362,8 @@ def beside(program, _path):
         raise AssertionError("less than half the speed")
 
 
-CHECKS = {it.__name__: it for it in (page, silent, queued, unread, broken, last, crowded, thousand, gone, reset, taken)}
+CHECKED = (page, silent, queued, unread, deaf, unreadable, broken, last, crowded, thousand, gone, reset, taken)
+CHECKS = {it.__name__: it for it in CHECKED}
 SLOW = {it.__name__: it for it in (soak, beside)}
 
 

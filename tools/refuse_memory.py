@@ -21,10 +21,11 @@ import tempfile
 from concurrent.futures import ThreadPoolExecutor
 
 from cache_text import cache_text
+from free_ports import free_port
 
 TOP = os.path.dirname(os.path.dirname(os.path.abspath(__file__)))
 SCRIPTS = ("stale_refill", "refresh_then_hit", "deltas_summed", "raised_then_hit", "swept_before_commit")
-PATIENCE = 20
+PATIENCE = 60
 ATONCE = 2
 
 UNDISTURBED = "all is as without it"
@@ -197,8 +198,7 @@ def two_talks(port):
 def run_server(refusing, at):
     """What came of a refusal to a server, and how often it asks for memory before its third connection."""
     path = refusing.numbers(at)
-    with socket.create_server(("127.0.0.1", 0)) as probe:
-        port = probe.getsockname()[1]
+    port = free_port()
     process = refusing.start(path, "serve", f"127.0.0.1:{port}", "3", "1", "1", "3")
     try:
         if process.stdout.readline() != b"ready\n":
@@ -226,8 +226,7 @@ def run_warm(refusing, at):
     old = cache_text(2, [(f"profile:{member}", f"m{member} 0 0") for member in (1, 2, 3)])
     with open(kept, "wb") as file:
         file.write(old)
-    with socket.create_server(("127.0.0.1", 0)) as probe:
-        port = probe.getsockname()[1]
+    port = free_port()
     process = refusing.start(path, "serve", "--warm", kept, f"127.0.0.1:{port}", "1", "1", "2", "3")
     try:
         begun = process.stdout.readline()

@@ -9,6 +9,8 @@ import sys
 import tempfile
 from contextlib import closing
 
+from free_ports import free_port
+
 PATIENCE = 60
 NOBODY = 65534
 
@@ -146,15 +148,16 @@ def is_run_by_nobody(program):
 
 class Server:
     """A server over a file, or with no path over rows in memory, at a port that was free a moment ago. `warm` names the
-    file of its cache."""
+    file of its cache, and `before` are words behind the program, which is strace then."""
 
-    def __init__(self, program, path, members=3, workers=1, most=None, warm=None, shards=1, conns=1000, user=None):
-        with socket.create_server(("127.0.0.1", 0)) as probe:
-            self.port = probe.getsockname()[1]
+    def __init__(
+        self, program, path, members=3, workers=1, most=None, warm=None, shards=1, conns=1000, user=None, before=()
+    ):
+        self.port = free_port()
         options = [*(["--db", path] if path else []), *(["--warm", warm] if warm else [])]
         words = [f"127.0.0.1:{self.port}", conns, workers, shards, members]
         self.process = subprocess.Popen(
-            [program, "serve", *options, *map(str, words)],
+            [program, *before, "serve", *options, *map(str, words)],
             stdout=subprocess.PIPE,
             stderr=subprocess.PIPE,
             restore_signals=False,

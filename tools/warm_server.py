@@ -16,7 +16,7 @@ import time
 
 from cache_text import body_text, cache_text, dump_text, file_text
 from store_files import (
-    NOBODY, Checks, Client, Server, Wrong, expect, is_run_by_nobody, make, query, run,
+    NOBODY, PATIENCE, Checks, Client, Server, Wrong, expect, is_run_by_nobody, make, query, run,
 )
 from store_files import rows as rows_in
 
@@ -29,6 +29,7 @@ SEED = 12
 ENDED = ("served 1\n", "", 0)
 FAULT = ("served 1\n", "file fault\n", 7)
 NO_FILE, FILE_FAULT, NO_CACHE, OTHER_ROWS = "cold no file", "cold file fault", "cold no cache", "cold other rows"
+MANY_KEYS = [f"friends:{member}" for member in range(1, 200)]
 TWO = [("profile:2", "m2 0 0"), ("profile:3", "m3 0 0")]
 KINDS = {
     "profile:2": "m2 0 0", "friends:2": ".", "pending:2": ".", "nfriends:2": "0", "npending:2": "0", "blocked:2": ".",
@@ -614,6 +615,51 @@ def stopped_at_its_end(folder):
             raise Wrong(f"the file has {len(folder.read())} bytes, neither {len(old)} nor {len(whole)}")
 
 
+def traced(folder, words, begun, end, calls):
+    """A server under strace with these words, and with the file: it begins and ends so. What it told of these calls."""
+    trace = folder.path("trace")
+    command = ["-f", "-o", trace, "-e", f"trace={calls}", *words, folder.program]
+    with Server("strace", None, warm=folder.path(), conns=1, before=command) as server:
+        expect(server.begun(), begun)
+        with Client(server) as client:
+            quit_all(client)
+        expect(server.end(), end)
+    with open(trace, encoding="utf-8") as stream:
+        told = stream.read()
+    os.remove(trace)
+    return told
+
+
+def synced_before_it_takes_the_place(folder):
+    """The new file is brought to the disk behind its last byte, and before it takes the place of the old one."""
+    folder.fill(["profile:2"])
+    told = traced(folder, [], "warm 1", ENDED, "write,fsync,fdatasync,rename,renameat,renameat2")
+    calls = [line.split(None, 1)[1] for line in told.splitlines()]
+    at = next(it for it, call in enumerate(calls) if call.startswith("rename"))
+    wrote = max(it for it, call in enumerate(calls[:at]) if call.startswith("write(") and "iqcache" in call)
+    number = calls[wrote][len("write(") :].split(",")[0]
+    synced = [it for it, call in enumerate(calls) if call.startswith((f"fsync({number})", f"fdatasync({number})"))]
+    if not any(wrote < it < at and calls[it].endswith("= 0") for it in synced):
+        raise Wrong(f"no sync between {calls[wrote]} and {calls[at]}")
+
+
+def sync_that_fails(folder):
+    folder.fill(["profile:2"])
+    kept = folder.read()
+    traced(folder, ["-e", "inject=fsync,fdatasync:error=EIO"], "warm 1", FAULT, "fsync,fdatasync")
+    expect(folder.read(), kept)
+
+
+def half_read(folder):
+    """A read that fails behind the first part of the file: nothing is taken over."""
+    folder.fill(MANY_KEYS)
+    calls = "read,pread64"
+    for number in (1, 2):
+        words = ["-P", folder.path(), "-e", f"inject={calls}:error=EIO:when={number}"]
+        traced(folder, words, FILE_FAULT, ENDED, calls)
+        folder.fill(MANY_KEYS, "warm 0")
+
+
 def door_that_fails(folder):
     """An address that is taken: nothing is printed, and nothing is written."""
     folder.fill(["profile:2"])
@@ -699,11 +745,32 @@ CHECKS = [
 ]
 
 
+TRACED = [
+    ("the new file is synced before it takes the place", synced_before_it_takes_the_place),
+    ("a sync that fails", sync_that_fails),
+    ("a file of which half is read", half_read),
+]
+
+
+def is_traced(program):
+    """Whether strace is there, and may trace."""
+    try:
+        ran = subprocess.run(["strace", "-o", os.devnull, program], capture_output=True, timeout=PATIENCE, check=False)
+        return ran.returncode == 1 and ran.stderr == b"usage\n"
+    except OSError:
+        return False
+
+
 def check_all(program):
     """Makes all checks. Their counts are in what comes back."""
     checks = Checks("warm", lambda place: Folder(program, place))
     for name, work in CHECKS:
         checks.check(name, work)
+    if is_traced(program):
+        for name, work in TRACED:
+            checks.check(name, work)
+    else:
+        print("warm: no strace here that can trace, so no call is made to fail, and no sync is looked for")
     if is_run_by_nobody(program):
         checks.check("a file and a folder without permission", no_permission)
     else:

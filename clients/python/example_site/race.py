@@ -21,13 +21,13 @@ from concurrent.futures import ThreadPoolExecutor
 from contextlib import contextmanager
 from dataclasses import dataclass
 from pathlib import Path
-from typing import Any, Dict, Iterator, Tuple, Union
+from typing import Dict, Iterator, Tuple, TypeVar, Union
 
 sys.path.insert(0, str(Path(__file__).resolve().parents[1]))
 
 from example_site.site import Aside, ByLeases  # noqa: E402
 from silamoven import Connection, Key, Kind, Pool, Rename, Txn, commands  # noqa: E402
-from silamoven.commands import Command, Role  # noqa: E402
+from silamoven.commands import Request, Role  # noqa: E402
 from silamoven.replies import Lease, Stored  # noqa: E402
 
 TOP = Path(__file__).resolve().parents[3]
@@ -37,6 +37,7 @@ READERS, WRITERS = 6, 2
 MEMBERS = range(11, 31)
 
 Way = Union[Aside, ByLeases]
+_R = TypeVar("_R")
 
 
 def gap(*_: object) -> None:
@@ -47,7 +48,7 @@ def gap(*_: object) -> None:
 class Slow(Connection):
     """A connection whose reader has the same gap before it stores what it asked for."""
 
-    def call(self, command: Command[Any]) -> Any:
+    def call(self, command: Request[_R]) -> _R:
         if command.data.startswith(b"iqset "):
             gap()
         return super().call(command)

@@ -1,7 +1,7 @@
 #!/usr/bin/env python3
 """An example of a site: the page of a member, her friends and her invitations.
 
-    ./iq serve 127.0.0.1:7000 forever 16 4 100 &
+    ./iq serve 127.0.0.1:7000 forever 16 8 1000 &
     python3 clients/python/example_site/site.py 127.0.0.1:7000 8080
 
 Then look at http://127.0.0.1:8080/member/2. A button switches between two ways of caching over the same store: the

@@ -28,6 +28,10 @@ _C = TypeVar("_C", bound="Connection")
 Address = Union[str, Tuple[str, int]]
 """A host and a port, or a text with a colon between, as ``127.0.0.1:7000``."""
 
+_GIVING_UP = 0.5
+"""So many seconds a session that is given up waits for the server to say so. Where it doesn't, the connection is closed,
+and the server gives the session up by itself."""
+
 _LONGEST_LINE = 4096
 _PIECE = 65536
 
@@ -173,8 +177,8 @@ class Connection(PlainClient):
         """Tells the server that this is the end, and closes."""
         if not self._is_closed:
             try:
-                self._sock.settimeout(self._timeouts.read)
-                self._sock.sendall(commands.QUIT)
+                self._sock.settimeout(0)  # A server that takes no bytes meets the end without it.
+                self._sock.send(commands.QUIT)
             except OSError:
                 pass
             self.close()
@@ -192,12 +196,16 @@ class Connection(PlainClient):
     def give_up(self) -> None:
         """Ends the present session, if it writes: it is busy no longer.
 
-        Before its commit each value stays. Behind it, the values of keys that it still holds are dropped.
+        Before its commit each value stays. Behind it, the values of keys that it still holds are dropped. A server that
+        doesn't answer within half a second is left to do so by itself: the connection is closed.
         """
         if self._is_closed or self._present is None or self._present[0] is Role.READ:
             return
+        command = commands.iqabort(self._present[1])
         try:
-            self.call(commands.iqabort(self._present[1]))
+            (reply,) = self._exchange([command], min(self._timeouts.read, _GIVING_UP))
+            if isinstance(reply, Failure):
+                raise command.error(reply.line)
         except SilamovenError:
             self.close()  # Then the server does the same.
 
@@ -219,9 +227,14 @@ class Connection(PlainClient):
         Raises:
             NetworkError: not all replies came. The connection is closed.
         """
+        return self._exchange(several)
+
+    def _exchange(self, several: Sequence[Request[_R]], within: Optional[float] = None) -> List[Union[_R, Failure]]:
+        """The same, with replies within so many seconds in place of those of the timeouts."""
+
         def replies() -> List[Union[_R, Failure]]:
             self._send(b"".join(command.data for command in several))
-            self._incoming.deadline = monotonic() + self._timeouts.read
+            self._incoming.deadline = monotonic() + (self._timeouts.read if within is None else within)
             return [self._reply_to(command) for command in several]
 
         return self._or_close(replies)

@@ -75,6 +75,7 @@ class Pool(PlainClient):
         self._lock = threading.Lock()
         self._idle: List[Connection] = []  # The one used last is at the end, and is lent first.
         self._is_closed = False
+        self._is_server_gone = False  # It couldn't be reached for as long as the backoff lasts, and not since.
 
     def __enter__(self) -> Pool:
         return self
@@ -103,7 +104,8 @@ class Pool(PlainClient):
         Raises:
             InvalidInputError: the text is no key, or the floor is below 0 or not below 2^64.
             ReplyError: the server answered by an error.
-            ConnectError, ConnectionLostError: the server couldn't be reached for as long as `backoff` lasts.
+            ConnectError, ConnectionLostError: the server couldn't be reached for as long as `backoff` lasts; at once
+                where another call has found that, and no call has reached it since.
             ReadTimeoutError, ProtocolError: no reply came in time, or none that can be read.
             PoolError: no connection could be lent.
         """
@@ -187,13 +189,21 @@ class Pool(PlainClient):
         return self._try(work)
 
     def _backing_off(self, once: Callable[[], _T]) -> _T:
-        return again(once, self._backoff.waits(), (ConnectError, ConnectionLostError))
+        # One caller has waited for a server that is gone. The others try once, until it is back.
+        waits = iter(()) if self._is_server_gone else self._backoff.waits()
+        try:
+            return again(once, waits, (ConnectError, ConnectionLostError))
+        except ConnectError:
+            self._is_server_gone = True
+            raise
 
     def _take(self) -> Connection:
         if not self._free.acquire(timeout=self._timeouts.pool):
             raise PoolTimeoutError(f"no connection became free in {self._timeouts.pool} seconds")
         try:
-            return self._idle_one() or self._connect(self._address, self._timeouts)
+            connection = self._idle_one() or self._connect(self._address, self._timeouts)
+            self._is_server_gone = False
+            return connection
         except BaseException:
             self._free.release()
             raise

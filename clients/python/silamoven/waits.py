@@ -4,7 +4,7 @@ from __future__ import annotations
 
 import random
 from dataclasses import dataclass
-from time import sleep
+from time import monotonic, sleep
 from typing import Callable, Iterator, Tuple, Type, TypeVar
 
 _T = TypeVar("_T")
@@ -32,18 +32,19 @@ class Backoff:
         first: the first wait, in seconds.
         factor: what each wait is multiplied by to give the next one.
         most: the longest wait, in seconds.
-        total: when all waits together would be longer than so many seconds, it is given up.
+        total: so many seconds behind the first try that failed it is given up, and no later.
     """
 
     first: float = 0.05
     factor: float = 2.0
     most: float = 1.0
-    total: float = 10.0
+    total: float = 2.0
 
     def waits(self) -> Iterator[float]:
         """The waits, one after each try that failed."""
+        began = monotonic()
         wait, waited = self.first, 0.0
-        while waited + wait <= self.total:
+        while max(waited, monotonic() - began) + wait <= self.total:
             drawn = wait * random.uniform(0.5, 1.0)
             yield drawn
             waited += drawn

@@ -4,16 +4,28 @@ from __future__ import annotations
 
 import atexit
 import os
+import random
 import signal
 import socket
 import subprocess
 import threading
 from pathlib import Path
-from typing import List, Optional, Sequence, Tuple
+from typing import Callable, List, Optional, Sequence, Tuple
+
+from silamoven import Backoff, Connection, Timeouts, WriteTries
+from silamoven.connection import Address
 
 TOP = Path(__file__).resolve().parents[3]
 PROGRAM = os.environ.get("IQ", str(TOP / "iq"))
-PATIENCE = 20.0
+
+PATIENCE = 60.0
+"""So many seconds a test waits for what comes unless something is wrong: the processor may be late by far."""
+
+PATIENT = Timeouts(connect=PATIENCE, read=PATIENCE, pool=PATIENCE)
+LASTING = Backoff(total=PATIENCE)
+STUBBORN = WriteTries(tries=1000)
+MOMENT = Timeouts(connect=PATIENCE, read=0.25, pool=PATIENCE)
+"""For a reply that never comes."""
 
 
 class Server:
@@ -93,8 +105,8 @@ class FakeServer:
 
     def __init__(self, *conversations: Sequence[Step], port: int = 0) -> None:
         self._conversations = list(conversations)
-        self._listener = socket.create_server(("127.0.0.1", port))
-        self.port = int(self._listener.getsockname()[1])
+        self.port = port or free_port()
+        self._listener = socket.create_server(("127.0.0.1", self.port))
         self._streams: List[socket.socket] = []
         self._wrong: List[str] = []
         self._is_over = threading.Event()
@@ -111,11 +123,11 @@ class FakeServer:
 
     def __exit__(self, kind: Optional[type], *_: object) -> None:
         if kind is None:
-            self._host.join(2)
+            self._host.join(PATIENCE)
             if self._host.is_alive():
                 self._wrong.append("not all clients came")
             for player in self._players:
-                player.join(2)
+                player.join(PATIENCE)
         self.stop()
         if kind is None and self._wrong:
             raise AssertionError("; ".join(self._wrong))
@@ -179,6 +191,18 @@ class FakeServer:
         return not isinstance(reply, (Cut, Hang))
 
 
+def opener(steps: Sequence[Step]) -> Callable[[Address, Timeouts], Connection]:
+    """What makes a connection that waits a moment for a reply that hangs or drips, and with patience for each other."""
+    late = {_bytes(line) for line, reply in steps if isinstance(reply, (Hang, Drip))}
+
+    class Opened(Connection):
+        def _send(self, data: bytes) -> None:
+            super()._send(data)
+            self._timeouts = MOMENT if data in late else PATIENT
+
+    return lambda address, _: Opened.open(address, PATIENT)
+
+
 def _bytes(text: str) -> bytes:
     return text.replace("\n", "\r\n").encode() + b"\r\n"
 
@@ -198,6 +222,11 @@ def _receive(stream: socket.socket, count: int) -> bytes:
 
 
 def free_port() -> int:
-    """A port at which nobody listens."""
-    with socket.create_server(("127.0.0.1", 0)) as probe:
-        return int(probe.getsockname()[1])
+    """A port at which nobody listens. It is below those that a system gives to connections, so none takes it meanwhile."""
+    while True:
+        port = random.SystemRandom().randrange(10_000, 30_000)
+        try:
+            with socket.create_server(("127.0.0.1", port)):
+                return port
+        except OSError:
+            pass

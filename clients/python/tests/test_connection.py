@@ -16,20 +16,18 @@ from silamoven import (
     ProtocolError,
     ReadTimeoutError,
     StoreError,
-    Timeouts,
     commands,
 )
 from silamoven.commands import Command, Role
 from silamoven.replies import Begun, Failure, Lease, Value
 
-from .support import Cut, Drip, FakeServer, Hang, Step, free_port
+from .support import MOMENT, PATIENCE, PATIENT, Cut, Drip, FakeServer, Hang, Step, free_port, opener
 
 KEY = Key.of("profile:2")
 BEGIN: Step = ("begin read", "SESSION 1")
 GET = commands.iqget(KEY, 1, 0)
 LINE = "iqget profile:2 1 0"
 VALUE = "VALUE profile:2 0 6 0\nm2 0 0\nEND"
-SHORT = Timeouts(connect=0.25, read=0.25)
 
 
 class Whole(unittest.TestCase):
@@ -52,7 +50,7 @@ class Whole(unittest.TestCase):
 
     def test_a_reply_that_comes_byte_by_byte(self) -> None:
         with FakeServer([BEGIN, (LINE, Drip("LEASE 1"))]) as server:
-            with Connection.open(server.address) as connection:
+            with Connection.open(server.address, PATIENT) as connection:
                 connection.begin(Role.READ)
                 self.assertEqual(connection.call(GET), Lease(1))
 
@@ -69,16 +67,14 @@ class Whole(unittest.TestCase):
 
 
 class Broken(unittest.TestCase):
-    def check(self, reply: str, error: type, most: float = 2.0) -> None:
-        """A server that answers a get so: the error is raised, in time, and the connection is closed."""
-        with FakeServer([BEGIN, (LINE, reply)]) as server:
-            timeouts = SHORT if error is ReadTimeoutError else Timeouts()
-            connection = Connection.open(server.address, timeouts)
+    def check(self, reply: str, error: type) -> None:
+        """A server that answers a get so: the error is raised, and the connection is closed."""
+        steps = [BEGIN, (LINE, reply)]
+        with FakeServer(steps) as server:
+            connection = opener(steps)(server.address, PATIENT)
             connection.begin(Role.READ)
-            began = time.monotonic()
             with self.subTest(reply), self.assertRaises(error):
                 connection.call(GET)
-            self.assertLess(time.monotonic() - began, most)
             self.assertTrue(connection.is_closed)
             with self.assertRaises(ConnectionLostError):
                 connection.call(GET)
@@ -90,11 +86,11 @@ class Broken(unittest.TestCase):
 
     def test_a_server_that_says_no_more(self) -> None:
         for text in ("LEA", "VALUE profile:2 0 6 0\nm2"):
-            self.check(Hang(text), ReadTimeoutError, 1.0)
+            self.check(Hang(text), ReadTimeoutError)
 
     def test_a_server_that_is_slow_to_the_end(self) -> None:
-        # The time is for the whole reply, so bytes that keep coming don't lengthen it.
-        self.check(Drip("LEASE 1234567890123"), ReadTimeoutError, 1.0)
+        # The time is for the whole reply, so bytes that keep coming don't lengthen it. These would for 10 seconds.
+        self.check(Drip("LEASE " + "1" * 200), ReadTimeoutError)
 
     def test_what_is_no_reply_to_the_command(self) -> None:
         for text in ("STORED", "HELLO", "VALUE profile:3 0 0 0\n\nEND", "VALUE profile:2 0 0\n\nEND", "x" * 5000):
@@ -104,7 +100,7 @@ class Broken(unittest.TestCase):
         with FakeServer([("begin read", "SESSION 1\nSESSION 2")]) as server:
             connection = Connection.open(server.address)
             connection.begin(Role.READ)
-            deadline = time.monotonic() + 2
+            deadline = time.monotonic() + PATIENCE
             while not connection.is_stale() and time.monotonic() < deadline:
                 time.sleep(0.01)
             self.assertTrue(connection.is_stale())
@@ -121,15 +117,37 @@ class Broken(unittest.TestCase):
 
     def test_nobody_listens(self) -> None:
         with self.assertRaises(ConnectError):
-            Connection.open(("127.0.0.1", free_port()), SHORT)
+            Connection.open(("127.0.0.1", free_port()), MOMENT)
 
     def test_a_server_that_takes_no_bytes(self) -> None:
         with socket.create_server(("127.0.0.1", 0)) as deaf:
-            connection = Connection.open(deaf.getsockname(), SHORT)
+            connection = Connection.open(deaf.getsockname(), MOMENT)
             lots: Command[Value] = Command(b"x" * (1 << 26), (Value,))
             with self.assertRaises(ReadTimeoutError):
                 connection.call(lots)
             self.assertTrue(connection.is_closed)
+
+    def test_the_end_beside_a_server_that_hangs_is_quick(self) -> None:
+        steps = [("begin write", "SESSION 1"), ("iqabort 1", Hang(""))]
+        with FakeServer(steps) as server:
+            connection = Connection.open(server.address, PATIENT)
+            connection.begin(Role.WRITE)
+            began = time.monotonic()
+            connection.give_up()
+            self.assertTrue(connection.is_closed)
+            self.assertLess(time.monotonic() - began, PATIENCE / 2)
+
+    def test_the_end_beside_a_server_that_takes_no_bytes_is_quick(self) -> None:
+        with socket.create_server(("127.0.0.1", 0)) as deaf:
+            connection = Connection.open(deaf.getsockname(), PATIENT)
+            connection._sock.settimeout(0)
+            with self.assertRaises(BlockingIOError):
+                while True:
+                    connection._sock.send(b"x" * 65536)
+            began = time.monotonic()
+            connection.quit()
+            self.assertTrue(connection.is_closed)
+            self.assertLess(time.monotonic() - began, PATIENCE / 2)
 
     def test_it_ends_the_connection_with_its_block(self) -> None:
         with FakeServer([BEGIN]) as server:

@@ -13,7 +13,7 @@ from typing import Dict, Tuple
 from example_site import race, site
 from silamoven import Pool
 
-from .support import Server
+from .support import PATIENCE, Server
 
 server: Server
 
@@ -32,7 +32,7 @@ class Visitor:
         self._cookie = ""
 
     def say(self, method: str, path: str, form: str = "") -> Tuple[int, str]:
-        connection = http.client.HTTPConnection("127.0.0.1", self._port, timeout=10)
+        connection = http.client.HTTPConnection("127.0.0.1", self._port, timeout=PATIENCE)
         headers: Dict[str, str] = {"Cookie": self._cookie} if self._cookie else {}
         connection.request(method, path, form, headers)
         response = connection.getresponse()

@@ -30,7 +30,7 @@ from silamoven import (
 from silamoven.commands import Request, Role
 from silamoven.replies import Ended, Granted, Lease, NotFound, NotStored, Released
 
-from .support import Server
+from .support import PATIENCE, PATIENT, STUBBORN, Server
 
 SECONDS = float(os.environ.get("IQ_SECONDS", "10"))
 OVERDUE = 10.2
@@ -55,7 +55,7 @@ def setUpModule() -> None:
 
 
 def connect() -> Connection:
-    return Connection.open(server.address)
+    return Connection.open(server.address, PATIENT)
 
 
 def wait_and_sweep() -> None:
@@ -92,7 +92,7 @@ def late_quarantine() -> Any:
 def late_release() -> Any:
     """What a writer is told that releases too late, and what is read then."""
     profile, pending, count = (Key.of(f"{kind}:23") for kind in ("profile", "pending", "npending"))
-    with Pool(server.address, size=1) as pool:
+    with Pool(server.address, size=1, timeouts=PATIENT) as pool:
         for key in (profile, pending, count):
             pool.read(key)
         with connect() as connection:
@@ -127,7 +127,7 @@ def late_write() -> Any:
                     wait_and_sweep()
             return super().call(command)
 
-    with Slow.open(server.address) as connection:
+    with Slow.open(server.address, PATIENT) as connection:
         writing.write(connection, txn, Mode.INVALIDATE, WriteTries())
         return len(tries), reading.read(connection, key, 0, ReadTries()).data
 
@@ -136,18 +136,18 @@ class Overdue(unittest.TestCase):
     """These run last: unittest takes the classes in the order of their names."""
 
     def test_a_late_set_is_not_stored(self) -> None:
-        self.assertEqual(late["late_lease"].result(30), NotStored())
+        self.assertEqual(late["late_lease"].result(PATIENCE), NotStored())
 
     def test_a_late_commit_is_ended(self) -> None:
-        self.assertEqual(late["late_quarantine"].result(30), [Ended(), Released(0)])
+        self.assertEqual(late["late_quarantine"].result(PATIENCE), [Ended(), Released(0)])
 
     def test_a_late_release_is_not_found_and_the_commit_stands(self) -> None:
-        replies, values = late["late_release"].result(30)
+        replies, values = late["late_release"].result(PATIENCE)
         self.assertEqual(replies, [NotFound()] * 3)
         self.assertEqual(values, [b"m23 0 1", b"24", b"1"])
 
     def test_a_write_begins_anew_that_was_ended(self) -> None:
-        self.assertEqual(late["late_write"].result(30), (2, b"bob 0 0"))
+        self.assertEqual(late["late_write"].result(PATIENCE), (2, b"bob 0 0"))
 
 
 class Done:
@@ -223,7 +223,8 @@ class Worker:
 class Load(unittest.TestCase):
     def test_no_read_is_older_than_what_its_thread_knows(self) -> None:
         done, until = Done(), time.monotonic() + SECONDS
-        with Pool(server.address, size=THREADS) as pool, ThreadPoolExecutor(THREADS) as threads:
+        lasting = Pool(server.address, size=THREADS, timeouts=PATIENT, write_tries=STUBBORN)
+        with lasting as pool, ThreadPoolExecutor(THREADS) as threads:
             workers = [Worker(number + 1, pool, done, until) for number in range(THREADS)]
             for ended in [threads.submit(worker.run) for worker in workers]:
                 ended.result()

@@ -31,8 +31,7 @@ from silamoven.commands import BIGGEST_BLOCK, Request
 from silamoven.plain_client import PlainClient
 from silamoven.replies import Failure
 
-from .support import Cut, FakeServer, Hang, Nothing, Step, free_port
-from .test_policy import patience
+from .support import PATIENT, Cut, FakeServer, Hang, Nothing, Step, free_port, opener
 from .test_replies import Text
 
 LAST = (1 << 64) - 1
@@ -225,11 +224,11 @@ class Said(unittest.TestCase):
         """What it comes to by each of the two ways."""
         results: List[object] = []
         with FakeServer(steps, *others) as server:
-            with Pool(server.address, timeouts=patience(steps)) as pool:
+            with Pool(server.address, connect=opener(steps)) as pool:
                 results.append(say(pool))
         if not others:
             with FakeServer(steps) as server:
-                with Connection.open(server.address, patience(steps)) as connection:
+                with opener(steps)(server.address, PATIENT) as connection:
                     results.append(say(connection))
         return results
 
@@ -237,11 +236,11 @@ class Said(unittest.TestCase):
         for number in range(2):
             with FakeServer(steps) as server:
                 if number == 0:
-                    with Pool(server.address, timeouts=patience(steps)) as pool:
+                    with Pool(server.address, connect=opener(steps)) as pool:
                         with self.subTest(steps), self.assertRaises(error) as caught:
                             say(pool)
                 else:
-                    with Connection.open(server.address, patience(steps)) as connection:
+                    with opener(steps)(server.address, PATIENT) as connection:
                         with self.subTest(steps), self.assertRaises(error) as caught:
                             say(connection)
                 self.assertIs(type(caught.exception), error)

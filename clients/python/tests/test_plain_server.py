@@ -28,7 +28,7 @@ from silamoven.commands import BIGGEST_BLOCK, Command
 from silamoven.plain_client import PlainClient
 from silamoven.replies import Failure
 
-from .support import Server
+from .support import LASTING, PATIENCE, PATIENT, Server
 
 LAST = (1 << 64) - 1
 
@@ -45,12 +45,12 @@ class WithServer(unittest.TestCase):
     """Each test is played through a pool and on a single connection, on keys of its own."""
 
     def pool(self, size: int = 2, of: str = "") -> Pool:
-        pool = Pool(of or server.address, size=size)
+        pool = Pool(of or server.address, size=size, timeouts=PATIENT, backoff=LASTING)
         self.addCleanup(pool.close)
         return pool
 
     def connect(self, of: str = "") -> Connection:
-        connection = Connection.open(of or server.address)
+        connection = Connection.open(of or server.address, PATIENT)
         self.addCleanup(connection.quit)
         return connection
 
@@ -350,7 +350,7 @@ class Restart(WithServer):
             got, counted = threads.submit(pool.get, key), threads.submit(pool.incr, key, 1)
             second = Server(members=3, port=first.port)
             self.addCleanup(second.stop)
-            self.assertEqual((got.result(20), counted.result(20)), (None, None))
+            self.assertEqual((got.result(PATIENCE), counted.result(PATIENCE)), (None, None))
         self.assertEqual((pool.add(key, b"1"), pool.get(key)), (True, b"1"))
         with self.assertRaises(NetworkError):
             lone.get(key)

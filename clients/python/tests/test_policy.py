@@ -20,12 +20,11 @@ from silamoven import (
     RejectedError,
     SpentError,
     StoreError,
-    Timeouts,
     UnknownOutcomeError,
     WriteTries,
 )
 
-from .support import Cut, FakeServer, Hang, Step
+from .support import Cut, FakeServer, Hang, Step, opener
 
 READ: Step = ("begin read", "SESSION 1")
 GET = "iqget profile:2 1 0"
@@ -40,11 +39,6 @@ ABORT: Step = ("iqabort 1", "RELEASED 1")
 AGAIN: Step = ("begin write", "SESSION 2")
 
 
-def patience(steps: Sequence[Step]) -> Timeouts:
-    """A short one, where the server says no more."""
-    return Timeouts(read=0.25) if any(isinstance(reply, Hang) for _, reply in steps) else Timeouts()
-
-
 def second(*steps: Step) -> List[Step]:
     """The same steps in the session of number 2."""
     return [(line.replace(" 1", " 2", 1), reply) for line, reply in steps]
@@ -53,7 +47,7 @@ def second(*steps: Step) -> List[Step]:
 class Reader(unittest.TestCase):
     def read(self, *steps: Step) -> Tuple[bytes, int, Origin]:
         with FakeServer([READ, *steps]) as server:
-            with Pool(server.address, timeouts=patience(steps)) as pool:
+            with Pool(server.address, connect=opener(steps)) as pool:
                 answer = pool.read("profile:2")
         return answer.data, answer.stamp, answer.origin
 
@@ -126,7 +120,7 @@ class Reader(unittest.TestCase):
 class Writer(unittest.TestCase):
     def write(self, *steps: Step, mode: Mode = Mode.INVALIDATE, txn: str = "rename 2 bob") -> int:
         with FakeServer([WRITE, *steps]) as server:
-            with Pool(server.address, timeouts=patience(steps), write_tries=WriteTries(3)) as pool:
+            with Pool(server.address, connect=opener(steps), write_tries=WriteTries(3)) as pool:
                 return pool.write(txn, mode)
 
     def check_raises(self, error: Type[Exception], *steps: Step) -> Exception:

@@ -23,11 +23,11 @@ from silamoven import (
 )
 from silamoven.commands import Role
 
-from .support import Cut, FakeServer, Step, free_port
+from .support import PATIENCE, Cut, FakeServer, Step, free_port
 
 READ: Step = ("begin read", "SESSION 1")
 HIT: Step = ("iqget profile:2 1 0", "VALUE profile:2 0 6 4\nm2 0 0\nEND")
-QUICK = Backoff(first=0.02, most=0.1, total=5.0)
+QUICK = Backoff(first=0.02, most=0.1, total=PATIENCE)
 
 
 class Lending(unittest.TestCase):
@@ -53,7 +53,7 @@ class Lending(unittest.TestCase):
                 reader.start()
                 time.sleep(0.05)
                 self.assertTrue(reader.is_alive())
-            reader.join(5)
+            reader.join(PATIENCE)
             self.assertFalse(reader.is_alive())
 
     def test_a_session_that_writes_is_given_up(self) -> None:
@@ -115,7 +115,7 @@ class ComingBack(unittest.TestCase):
         time.sleep(0.3)
         self.assertTrue(reader.is_alive())
         with FakeServer([READ, HIT], port=first.port):
-            reader.join(5)
+            reader.join(PATIENCE)
             pool.close()
         self.assertEqual(got, [b"m2 0 0"])
 
@@ -125,27 +125,58 @@ class ComingBack(unittest.TestCase):
             with pool.lend() as first, pool.lend() as second:
                 for connection in (first, second):
                     connection.begin(Role.READ)
-            time.sleep(0.05)
+                    while not connection.is_stale():
+                        time.sleep(0.01)
             with mock.patch("silamoven.waits.sleep") as sleep:
                 pool.read("profile:2")
             sleep.assert_not_called()
 
     def test_given_up_when_the_time_is_over(self) -> None:
-        began = time.monotonic()
-        with Pool(("127.0.0.1", free_port()), backoff=Backoff(first=0.05, total=0.4)) as pool:
-            calls: List[Callable[[], object]] = [lambda: pool.read("profile:2"), lambda: pool.write("rename 2 bob")]
-            for call in calls:
-                with self.assertRaises(ConnectError):
-                    call()
-            with self.assertRaises(ConnectError), pool.lend():
+        def lend(pool: Pool) -> None:
+            with pool.lend():
                 pass
-        self.assertLess(time.monotonic() - began, 3)
+
+        calls: List[Callable[[Pool], object]] = [
+            lambda pool: pool.read("profile:2"),
+            lambda pool: pool.write("rename 2 bob"),
+            lend,
+        ]
+        still = mock.patch("silamoven.waits.monotonic", return_value=0.0)
+        for call in calls:
+            with Pool(("127.0.0.1", free_port()), backoff=Backoff(first=0.05, total=0.4)) as pool:
+                with still, mock.patch("random.uniform", return_value=1.0), mock.patch("silamoven.waits.sleep") as sleep:
+                    with self.assertRaises(ConnectError):
+                        call(pool)
+                self.assertEqual([each.args[0] for each in sleep.call_args_list], [0.05, 0.1, 0.2])
+
+    def test_one_waits_for_a_server_that_is_gone_and_the_others_do_not(self) -> None:
+        port = free_port()
+        with Pool(("127.0.0.1", port)) as pool:
+            with mock.patch("silamoven.waits.sleep") as sleep:
+                for _ in range(3):
+                    with self.assertRaises(ConnectError):
+                        pool.read("profile:2")
+                    self.assertTrue(0 < len(sleep.call_args_list) <= 8)
+                waits = len(sleep.call_args_list)
+                with FakeServer([READ, HIT], port=port) as server:
+                    pool.read("profile:2")
+                    server.stop()
+                self.assertEqual(len(sleep.call_args_list), waits)
+                # It was there, so the next one waits again.
+                with self.assertRaises(ConnectError):
+                    pool.read("profile:2")
+                self.assertGreater(len(sleep.call_args_list), waits)
+
+    def test_tries_that_take_long_count(self) -> None:
+        with mock.patch("silamoven.waits.monotonic", side_effect=[100.0, 100.0, 101.0, 101.96]):
+            self.assertEqual(len(list(Backoff(first=0.05, total=2.0).waits())), 2)
 
     def test_lost_every_time(self) -> None:
         lost = [("begin read", Cut(""))]
         with FakeServer(lost, lost, lost) as server:
             with Pool(server.address, backoff=Backoff(first=0.01, factor=1.0, total=0.0205)) as pool:
-                with mock.patch("random.uniform", return_value=1.0):
+                still = mock.patch("silamoven.waits.monotonic", return_value=0.0)
+                with still, mock.patch("random.uniform", return_value=1.0):
                     with self.assertRaises(ConnectionLostError):
                         pool.read("profile:2")
 

@@ -59,7 +59,7 @@ from silamoven.replies import (
     read_reply,
 )
 
-from .support import TOP, Server
+from .support import LASTING, PATIENCE, PATIENT, STUBBORN, TOP, Server
 from .test_replies import Text
 
 server: Server
@@ -90,12 +90,12 @@ class WithServer(unittest.TestCase):
         return tuple(range(first, first + count))
 
     def connect(self) -> Connection:
-        connection = Connection.open(server.address)
+        connection = Connection.open(server.address, PATIENT)
         self.addCleanup(connection.quit)
         return connection
 
     def pool(self, size: int = 2) -> Pool:
-        pool = Pool(server.address, size=size)
+        pool = Pool(server.address, size=size, timeouts=PATIENT, write_tries=STUBBORN)
         self.addCleanup(pool.close)
         return pool
 
@@ -413,7 +413,7 @@ class Restart(unittest.TestCase):
     def test_a_pool_comes_back_and_a_floor_begins_anew(self) -> None:
         first = Server(members=3)
         self.addCleanup(first.stop)
-        with Pool(first.address) as pool:
+        with Pool(first.address, backoff=LASTING) as pool:
             me = pool.own_reads()
             for name in ("al", "bob"):
                 me.write(f"rename 2 {name}")
@@ -424,7 +424,7 @@ class Restart(unittest.TestCase):
                 second = Server(members=3, port=first.port)
                 self.addCleanup(second.stop)
                 # The rows were in memory, so the numbers begin at 0 again.
-                answer = reading.result(20)
+                answer = reading.result(PATIENCE)
             self.assertEqual((answer.text, answer.stamp, me.floor), ("m2 0 0", 0, 0))
             self.assertEqual((me.write("rename 2 cy"), me.floor), (1, 1))
             self.assertEqual(me.read("profile:2").text, "cy 0 0")
