@@ -4,6 +4,7 @@ pub mod CaseLemmas
 pub mod DueLemmas
 pub mod EndLemmas
 pub mod KeptLemmas
+pub mod LapseLemmas
 pub mod LegalLemmas
 pub mod LookLemmas
 pub mod OneStepLemmas
@@ -16,6 +17,7 @@ pub mod QuarantineLemmas
 pub mod SightLemmas
 pub mod SweepLemmas
 pub mod TiesLemmas
+pub mod VoidLemmas
 pub mod TokenLemmas
 pub mod PermitLemmas
 pub mod RaiseLemmas
