@@ -43,7 +43,7 @@ class Site(unittest.TestCase):
     """A database with one product, a server, and a client of both."""
 
     def setUp(self) -> None:
-        folder = tempfile.TemporaryDirectory()
+        folder = tempfile.TemporaryDirectory(dir="/dev/shm" if os.path.isdir("/dev/shm") else None)
         self.addCleanup(folder.cleanup)
         self.path = os.path.join(folder.name, "shop.db")
         self.fence = SQLite(self.path, patience=0.1)
@@ -296,10 +296,11 @@ class Rules(Site):
             self.fail("entered")
 
     def test_7_the_mark_is_in_no_savepoint(self) -> None:
+        self.read()
         with self.cache.transaction(self.conn) as t:
-            t.invalidate("p17")
             self.raise_price(self.conn)
             self.conn.execute("SAVEPOINT s")
+            t.invalidate("p17")
             self.raise_price(self.conn)
             self.conn.execute("ROLLBACK TO s")
         self.assertEqual(self.price(), b"11")
