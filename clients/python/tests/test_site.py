@@ -1,30 +1,29 @@
-"""The client for a site's own database, over SQLite and a small server: what no order of events may do.
+"""The client for a site's own database, over SQLite and PostgreSQL, and a small server: what no order of events may do.
 
 Each rule that the library keeps has a test here which fails without it.
 """
 
 from __future__ import annotations
 
-import os
 import sqlite3
-import tempfile
 import threading
 import unittest
 from contextlib import closing
-from typing import Callable, List, Optional
+from typing import Any, Callable, List
 
 from silamoven import Timeouts, UnknownOutcomeError
-from silamoven.site import Cache, Outcome, RetryError, SetupError, SQLite, UsageError
+from silamoven.site import Cache, Outcome, RetryError, SetupError, UsageError
 from silamoven.site.protocol import Session
 from silamoven.waits import ReadTries
 
+from .site_databases import PostgresDatabase, SQLiteDatabase, run
 from .site_server import HALF, CacheServer
 
 
 class LosesReply:
     """A connection whose reply to COMMIT is lost, once it was done or before that."""
 
-    def __init__(self, conn: sqlite3.Connection, is_done: bool, then: Callable[[], None] = lambda: None) -> None:
+    def __init__(self, conn: Any, is_done: bool, then: Callable[[], None] = lambda: None) -> None:
         self._conn = conn
         self._is_done = is_done
         self._then = then
@@ -40,25 +39,32 @@ class LosesReply:
 
 
 class Site(unittest.TestCase):
-    """A database with one product, a server, and a client of both."""
+    """A database with one product, a server, and a client of both. The tests are run over each kind of database."""
+
+    kind: Any = None
+    begin = "SELECT 1"
+
+    @classmethod
+    def setUpClass(cls) -> None:
+        if cls.kind is None:
+            raise unittest.SkipTest("of no database")
 
     def setUp(self) -> None:
-        folder = tempfile.TemporaryDirectory(dir="/dev/shm" if os.path.isdir("/dev/shm") else None)
-        self.addCleanup(folder.cleanup)
-        self.path = os.path.join(folder.name, "shop.db")
-        self.fence = SQLite(self.path, patience=0.1)
+        self.database = self.kind()
+        self.addCleanup(self.database.close)
+        self.refusal = self.database.integrity_error
+        self.fence = self.database.fence()
         self.fence.setup(["c1", "c2"])
         self.conn = self.connect()
-        self.conn.execute("PRAGMA journal_mode=WAL")
-        self.conn.execute("CREATE TABLE product (id integer PRIMARY KEY, price integer)")
-        self.conn.execute("INSERT INTO product VALUES (17, 10)")
+        run(self.conn, "CREATE TABLE product (id integer PRIMARY KEY, price integer)")
+        run(self.conn, "INSERT INTO product VALUES (17, 10)")
         self.conn.commit()
         self.server = CacheServer()
         self.addCleanup(self.server.__exit__)
         self.cache = self.new_cache()
 
-    def connect(self) -> sqlite3.Connection:
-        conn = sqlite3.connect(self.path, timeout=0.1)
+    def connect(self) -> Any:
+        conn = self.database.connect()
         self.addCleanup(conn.close)
         return conn
 
@@ -69,25 +75,24 @@ class Site(unittest.TestCase):
         self.addCleanup(cache.close)
         return cache
 
-    def price(self, conn: Optional[sqlite3.Connection] = None) -> bytes:
+    def price(self, conn: Any = None) -> bytes:
         """The query of the key `p17`."""
         if conn is None:
-            with closing(sqlite3.connect(self.path)) as own:
+            with closing(self.database.connect()) as own:
                 return self.price(own)
-        row = conn.execute("SELECT price FROM product WHERE id = 17").fetchone()
-        return str(row[0]).encode()
+        return str(run(conn, "SELECT price FROM product WHERE id = 17")[0][0]).encode()
 
     def read(self) -> bytes:
         return self.cache.read("p17", self.price)
 
-    def raise_price(self, conn: sqlite3.Connection) -> None:
-        conn.execute("UPDATE product SET price = price + 1 WHERE id = 17")
+    def raise_price(self, conn: Any) -> None:
+        run(conn, "UPDATE product SET price = price + 1 WHERE id = 17")
 
     def last_session(self) -> Session:
         return Session(self.server.life, self.server.session)
 
     def marks(self) -> List[object]:
-        return self.connect().execute("SELECT server, life, id, fenced FROM iq_session").fetchall()
+        return [*run(self.connect(), "SELECT server, life, id, fenced FROM iq_session")]
 
 
 class Reads(Site):
@@ -116,15 +121,11 @@ class Reads(Site):
 
     def test_inside_a_transaction_with_an_old_snapshot_nothing_is_set(self) -> None:
         reader = self.connect()
-        reader.execute("BEGIN")
+        run(reader, self.begin)
         self.assertEqual(self.price(reader), b"10")
         with self.cache.transaction(self.conn) as t:
             t.invalidate("p17")
-            t_conn = self.conn
-            t_conn.execute("INSERT INTO product VALUES (18, 1)")
-            reader.commit()
-            reader.execute("BEGIN")
-            self.price(reader)
+            self.raise_price(self.conn)
         self.assertEqual(self.cache.read("p17", lambda: self.price(reader), conn=reader), b"10")
         self.assertIsNone(self.server.value("p17"))
 
@@ -160,7 +161,7 @@ class Writes(Site):
         with self.cache.transaction(self.conn) as t:
             t.incr("p17", 5)
             t.append("list", b"b")
-            self.conn.execute("UPDATE product SET price = price + 5 WHERE id = 17")
+            run(self.conn, "UPDATE product SET price = price + 5 WHERE id = 17")
         self.assertEqual(self.server.value("p17"), b"15")
         self.assertEqual(self.server.value("list"), b"ab")
 
@@ -203,7 +204,7 @@ class Rules(Site):
         self.assertEqual(set(self.marks()), lives)
 
     def test_2_a_writer_that_was_fenced_does_not_commit(self) -> None:
-        with self.assertRaises(sqlite3.IntegrityError), self.cache.transaction(self.conn) as t:
+        with self.assertRaises(self.refusal), self.cache.transaction(self.conn) as t:
             t.invalidate("p17")
             self.server.pass_deadlines()
             self.assertEqual(self.read(), b"10")  # it meets the overdue session, fences it, and refills
@@ -211,7 +212,7 @@ class Rules(Site):
         self.assertEqual((self.price(), self.server.value("p17")), (b"10", b"10"))
 
     def test_2_a_writer_of_an_old_life_does_not_commit(self) -> None:
-        with self.assertRaises(sqlite3.IntegrityError), self.cache.transaction(self.conn) as t:
+        with self.assertRaises(self.refusal), self.cache.transaction(self.conn) as t:
             t.invalidate("p17")
             self.server.restart()
             self.assertEqual(self.read(), b"10")  # it opens the server, and refills
@@ -299,10 +300,10 @@ class Rules(Site):
         self.read()
         with self.cache.transaction(self.conn) as t:
             self.raise_price(self.conn)
-            self.conn.execute("SAVEPOINT s")
+            run(self.conn, "SAVEPOINT s")
             t.invalidate("p17")
             self.raise_price(self.conn)
-            self.conn.execute("ROLLBACK TO s")
+            run(self.conn, "ROLLBACK TO s")
         self.assertEqual(self.price(), b"11")
         self.assertEqual(self.marks(), [("c1", self.server.life, 1, 0)])
 
@@ -328,7 +329,7 @@ class Fences(Site):
         self.conn.rollback()
         self.assertIs(self.fence.fence("c1", session), Outcome.NEVER)
         self.assertIs(self.fence.fence("c1", session), Outcome.NEVER)
-        with self.assertRaises(sqlite3.IntegrityError):
+        with self.assertRaises(self.refusal):
             self.fence.mark(self.conn, {"c1": session})
 
     def test_an_opening_ends_the_sessions_before_it(self) -> None:
@@ -342,16 +343,37 @@ class Fences(Site):
         with self.assertRaises(SetupError):
             self.fence.open("c3")
 
-    def test_connections_that_cannot_keep_a_mark_are_refused(self) -> None:
-        by_itself = sqlite3.connect(self.path, isolation_level=None)
-        self.addCleanup(by_itself.close)
-        with self.assertRaises(SetupError), self.cache.transaction(by_itself):
-            self.fail("entered")
-        with self.assertRaises(SetupError):
-            self.fence.mark(self.connect(), {"c1": self.begun()})
-
 
 class Openings(Site):
+    def test_many_readers_open_a_server_that_came_back(self) -> None:
+        self.read()
+        self.server.restart()
+        told: List[bytes] = []
+        caches = [self.new_cache() for _ in range(4)]
+        readers = [threading.Thread(target=lambda it=it: told.append(it.read("p17", self.price))) for it in caches]
+        for reader in readers:
+            reader.start()
+        for reader in readers:
+            reader.join(10)
+        self.assertEqual(told, [b"10"] * 4)
+        self.assertEqual([(self.server.life,)], run(self.connect(), "SELECT life FROM iq_life"))
+
+    def test_an_opening_of_an_earlier_run_is_refused(self) -> None:
+        run = self.server.run
+        life = self.fence.open("c1")
+        self.server.restart()
+        self.assertEqual(self.server.say(f"open {run} {life}"), b"CLIENT_ERROR other run\r\n")
+
+    def test_tokens_and_sessions_carry_the_life(self) -> None:
+        self.read()
+        with self.cache.transaction(self.conn) as t:
+            t.invalidate("p17")
+        self.assertEqual(self.last_session().sid // HALF, self.server.life)
+
+
+class OwnWay(Site):
+    """In SQLite a writer's transaction is in the way of each fence and opening, its own among them."""
+
     def test_a_writer_that_is_in_its_own_way_opens_behind_its_rollback(self) -> None:
         with self.assertRaises(RetryError), self.cache.transaction(self.conn) as t:
             self.raise_price(self.conn)
@@ -372,29 +394,21 @@ class Openings(Site):
             t.invalidate("p17")
         self.assertEqual(self.server.holders("p17"), [])
 
-    def test_many_readers_open_a_server_that_came_back(self) -> None:
-        self.read()
-        self.server.restart()
-        told: List[bytes] = []
-        caches = [self.new_cache() for _ in range(4)]
-        readers = [threading.Thread(target=lambda it=it: told.append(it.read("p17", self.price))) for it in caches]
-        for reader in readers:
-            reader.start()
-        for reader in readers:
-            reader.join(10)
-        self.assertEqual(told, [b"10"] * 4)
-        self.assertEqual(self.server.life, self.connect().execute("SELECT life FROM iq_life").fetchone()[0])
-
-    def test_an_opening_of_an_earlier_run_is_refused(self) -> None:
-        run = self.server.run
-        life = self.fence.open("c1")
-        self.server.restart()
-        self.assertEqual(self.server.say(f"open {run} {life}"), b"CLIENT_ERROR other run\r\n")
-
-    def test_tokens_and_sessions_carry_the_life(self) -> None:
-        self.read()
-        with self.cache.transaction(self.conn) as t:
-            t.invalidate("p17")
-        self.assertEqual(self.last_session().sid // HALF, self.server.life)
+    def test_connections_that_cannot_keep_a_mark_are_refused(self) -> None:
+        by_itself = self.connect()
+        by_itself.isolation_level = None
+        with self.assertRaises(SetupError), self.cache.transaction(by_itself):
+            self.fail("entered")
+        with self.assertRaises(SetupError):
+            self.fence.mark(self.connect(), {"c1": Session(self.fence.open("c1"), 1)})
 
 
+def over(kind: Any, tests: Any, begin: str) -> Any:
+    """These tests over this kind of database."""
+    return type(f"{tests.__name__}{kind.__name__}", (tests,), {"kind": kind, "begin": begin, "__module__": __name__})
+
+
+for _tests in (Reads, Writes, Rules, Fences, Openings):
+    for _kind, _begin in ((SQLiteDatabase, "BEGIN"), (PostgresDatabase, "SELECT 1")):
+        globals()[f"{_tests.__name__}{_kind.__name__}"] = over(_kind, _tests, _begin)
+OwnWay.kind, OwnWay.begin = SQLiteDatabase, "BEGIN"

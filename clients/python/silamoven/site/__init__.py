@@ -14,6 +14,7 @@ A draft: it speaks to `iq cache`, which isn't there yet.
 
 from .cache import Cache
 from .fences import Fence, Outcome, SetupError, SQLite, WaitError
+from .postgres import Postgres
 from .transaction import RetryError, Transaction, UsageError
 
-__all__ = ["Cache", "Fence", "Outcome", "RetryError", "SQLite", "SetupError", "Transaction", "UsageError", "WaitError"]
+__all__ = ["Cache", "Fence", "Outcome", "Postgres", "RetryError", "SQLite", "SetupError", "Transaction", "UsageError", "WaitError"]

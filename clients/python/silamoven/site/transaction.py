@@ -185,10 +185,11 @@ class Transaction:
             self._give_up()
             return
         try:
-            self._fence.mark(self._conn, self._sessions)
             for hold in self._holds.values():
                 if isinstance(hold.change, _Put):
                     hold.value = hold.change.make()
+            # Last, outside of each savepoint: a transaction that has failed already refuses it too.
+            self._fence.mark(self._conn, self._sessions)
         except BaseException:
             self._give_up()
             raise
