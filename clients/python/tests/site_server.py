@@ -30,8 +30,9 @@ class Item:
 class CacheServer:
     """The server, listening. `said` has the lines that it was sent."""
 
-    def __init__(self, name: str = "c1") -> None:
+    def __init__(self, name: str = "c1", stays_open: bool = False) -> None:
         self.name = name
+        self._stays_open = stays_open  # as it must not: in its old life
         self.run = 1
         self.said: List[str] = []
         self.lose_reply_of: Set[str] = set()  # each is done, and the connection closed without a reply, once
@@ -69,7 +70,10 @@ class CacheServer:
         """It comes back, and has forgotten all."""
         with self._lock:
             self.run += 1
+            life, token, session = self.life, self.token, self.session
             self._forget()
+            if self._stays_open:
+                self.life, self.token, self.session = life, token, session
 
     def pass_deadlines(self) -> None:
         """Leases end, and quarantines are overdue."""
@@ -95,7 +99,10 @@ class CacheServer:
 
     def _talk(self, peer: socketserver.StreamRequestHandler) -> None:
         while True:
-            line = peer.rfile.readline().decode("latin-1").rstrip("\r\n")
+            try:
+                line = peer.rfile.readline().decode("latin-1").rstrip("\r\n")
+            except OSError:
+                return
             if not line or line == "quit":
                 return
             words = line.split(" ")
@@ -107,7 +114,10 @@ class CacheServer:
                 if words[0] in self.lose_reply_of:
                     self.lose_reply_of.discard(words[0])
                     return
-            peer.wfile.write(reply)
+            try:
+                peer.wfile.write(reply)
+            except OSError:
+                return  # Its client is gone.
 
     def _answer(self, words: List[str], block: Optional[bytes]) -> bytes:
         verb = words[0]
