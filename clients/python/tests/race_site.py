@@ -19,6 +19,7 @@ import sys
 import tempfile
 import threading
 import time
+from importlib import import_module
 from typing import Any, Dict, List
 
 from silamoven.connection import Timeouts
@@ -43,7 +44,7 @@ class Floors:
         struct.pack_into("q", self._bytes, 8 * (writer * KEYS + key), version)
 
     def of(self, key: int) -> int:
-        return max(struct.unpack_from("q", self._bytes, 8 * (writer * KEYS + key))[0] for writer in range(WRITERS))
+        return max(int(struct.unpack_from("q", self._bytes, 8 * (it * KEYS + key))[0]) for it in range(WRITERS))
 
 
 class Pauses:
@@ -68,9 +69,9 @@ def pause() -> None:
 def without(fence: Fence, part: str) -> Fence:
     """The fence with that part taken away."""
     if part == "mark":
-        fence.mark = lambda conn, sessions: None  # type: ignore[method-assign]
+        setattr(fence, "mark", lambda conn, sessions: None)
     if part == "fence":
-        fence.fence = lambda server, session: Outcome.NEVER  # type: ignore[method-assign]
+        setattr(fence, "fence", lambda server, session: Outcome.NEVER)
     return fence
 
 
@@ -83,9 +84,7 @@ def connect(kind: str, where: str) -> Any:
         import sqlite3
 
         return sqlite3.connect(where, timeout=0.5)
-    import psycopg2  # type: ignore[import]
-
-    conn = psycopg2.connect(where)
+    conn = import_module("psycopg2").connect(where)
     conn.set_session(isolation_level=random.choice(["READ COMMITTED", "REPEATABLE READ", "SERIALIZABLE"]))
     return conn
 
