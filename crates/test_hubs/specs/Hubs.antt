@@ -1,5 +1,5 @@
 -- What a new hub of tests is made of.
-use Rattle.std.specs.Prelude.{ℕ, ◌≡◌, List, [], Option, None, Some}
+use Rattle.std.specs.Prelude.{ℕ, ◌≡◌, List, [], false, Option, Some}
 use Rattle.rows_model.specs.Rows.{Tables}
 use Rattle.key_shard.specs.declared.steps.Step.{Step}
 use Rattle.key_shard.specs.Past.{Terms}
@@ -20,7 +20,7 @@ pub record IsMadeFor (shards parts : ℕ) (word : WordView) (store : PassView) (
 -- before.
 pub record IsNewHub (word : WordView) (before : ℕ → List Step) (begun failed : ℕ) (terms : ℕ → Terms) (opening : Tables) (cap : ℕ)
     (known_rows : Option Tables) (start : Option ℕ) (shape : Shape) (store : StoreView) (its_word : WordView) : Type 0 where
-  pub terms_are : terms ≡ terms_at shape.shards shape.room shape.life None
+  pub terms_are : terms ≡ terms_at shape.shards shape.room shape.life false
   pub named : IsNamedStore opening cap known_rows start store
   pub start_is : start ≡ Some store.faults
   pub opened_is : store.ledger ≡ opened store.ledger.opening 8000000

@@ -1,5 +1,5 @@
 //! What the audit finds of logs and of shards.
-ghost use Rattle.std.specs.Prelude.{◌≡◌, ◌∷◌, ◌++◌, ◌<◌, [], None};
+ghost use Rattle.std.specs.Prelude.{◌≡◌, ◌∷◌, ◌++◌, ◌<◌, [], false, None};
 ghost use Rattle.key_shard.specs.Shards.{ShardView};
 ghost use Rattle.run_audit.specs.Findings.{IsNumbered};
 

@@ -1,5 +1,5 @@
 -- What shards hand out, one after another.
-use Rattle.std.proofs.Common.{suc, ◌≡◌, ◌<◌, List, [], ◌∷◌, ◌++◌, length, map, None, append_assoc, get_or, arith, sym, ap, ◌∙◌, subst}
+use Rattle.std.proofs.Common.{false, suc, ◌≡◌, ◌<◌, List, [], ◌∷◌, ◌++◌, length, map, None, append_assoc, get_or, arith, sym, ap, ◌∙◌, subst}
 use Rattle.std.specs.List.{remove}
 use Rattle.key_shard.specs.declared.steps.Step.{Step}
 use Rattle.key_shard.specs.Shards.{ShardView}

@@ -40,7 +40,7 @@ use Rattle.top_run.specs.Serves.{BeginsBy, IsAttended, IsServedText, serve_rolls
 use Rattle.top_run.specs.Warming.{AreRight, IsRightBehind}
 use Rattle.top_run.specs.Works.{hub_terms}
 use Rattle.top_run.proofs.WarmingLemmas.{to_load}
-use Rattle.top_run.proofs.WorkLemmas.{left_of}
+use Rattle.top_run.proofs.WorkLemmas.{given_up_by, given_up-kept, left_of}
 
 at_place : (P : ShardView → Type 0) (shards : List ShardView) (place : ℕ) (shard : ShardView) → All P shards → slice_get shards place ≡ Some shard → P shard
 at_place P shards place shard all is =
@@ -227,7 +227,7 @@ module _ (spec : ServeSpec) (terms : ℕ → Terms) (store : StoreView) (shards 
   dumped_of : (place : ℕ) (shard : ShardView) → slice_get shards place ≡ Some shard → IsDumpText (dump_text (dump_of store.ledger.log shard)) (dump_of store.ledger.log shard)
       → IsDumpedOf (hub_terms (serve_shape spec) serve_rolls place) store.known_rows store.ledger.opening store.ledger.log (kept_of shard) (dump_of store.ledger.log shard)
   dumped_of place shard at is =
-      let parts : take shard.gone shard.history ++ kept_of shard ≡ shard.history = take-append-drop shard.gone shard.history in
+      let parts : given_up_by shard ++ kept_of shard ≡ shard.history = given_up-kept shard in
       let loads =
       to_load (hub_terms (serve_shape spec) serve_rolls place) store.ledger.log shard (record { dump = dump_of store.ledger.log shard; bytes = length (dump_text (dump_of store.ledger.log shard)) })
       store.known_rows store.known_rows store.ledger.opening (rows_after store.ledger.opening store.ledger.log) (terms_at place shard at) (omega arith)
@@ -235,7 +235,7 @@ module _ (spec : ServeSpec) (terms : ℕ → Terms) (store : StoreView) (shards 
       (record { dump_is = refl; right = is; bytes_are = refl }) (λ some. some) refl
       (λ some. at_place (IsRightBehind store.ledger.opening store.ledger.log) shards place shard (right some) at) in
       record {
-        given_up = take shard.gone shard.history;
+        given_up = given_up_by shard;
         legal = subst (λ (h : List Step). Legal (hub_terms (serve_shape spec) serve_rolls place) h) (sym parts)
             (subst (λ (t : Terms). Legal t shard.history) (terms_at place shard at)
             (at_place (λ (s : ShardView). Legal s.terms s.history) shards place shard legal at));

@@ -1,12 +1,12 @@
 -- The ends of a load's run.
-use Rattle.std.proofs.Common.{ℕ, suc, ◌≡◌, ◌+◌, ◌-◌, ◌^◌, ◌<◌, ◌≤◌, ◌≢◌, List, ◌∷◌, ◌++◌, length, take, drop, drop-cons, add-one, arith, refl, sym, ap, ◌∙◌, subst, inl, inr, All}
-use Rattle.std.specs.Prelude.{Bool, true, false, ◌⊎◌, nat_lt, cond, Option, Some, None, Result, Ok, Err, IfOk, IfErr, slice_get, option_map}
+use Rattle.std.proofs.Common.{ℕ, suc, ◌≡◌, ◌+◌, ◌-◌, ◌^◌, ◌<◌, ◌≤◌, ◌≢◌, List, [], ◌∷◌, ◌++◌, length, drop, drop-cons, add-one, arith, refl, sym, ap, ◌∙◌, subst, inl, inr, All}
+use Rattle.std.specs.Prelude.{Bool, true, false, if◌then◌else◌, ◌⊎◌, nat_lt, cond, Option, Some, None, Result, Ok, Err, IfOk, IfErr, slice_get, option_map}
 use Rattle.std.specs.Prelude.{unwrap_or, is_some, IsSome, get_or}
 use Rattle.std.specs.List.{position_from}
 use Rattle.std.proofs.lemmas.Iterator.Adapters.{position_from-zero}
 use Rattle.std.specs.Option.{ForSome}
 use Rattle.std.proofs.lemmas.Bool.{false≢true}
-use Rattle.std.proofs.lemmas.List.{take-append-drop, drop_all}
+use Rattle.std.proofs.lemmas.List.{append-nil, drop_all}
 use Rattle.std.proofs.lemmas.List.Elements.{All-get_or}
 use Rattle.std.proofs.lemmas.Option.{slice_get-map, slice_get_within, get_or_from_slice_get}
 use Rattle.iq_outside.specs.Outside.{Rose}
@@ -86,17 +86,28 @@ legal_of terms shape shards are all legal place history is =
     let there = unmapped (λ (s : ShardView). s.history) (slice_get shards place) history (sym (slice_get-map (λ (s : ShardView). s.history) shards place) ∙ is) in
     subst (λ (h : List Step). Legal (hub_terms shape false place) h) there.2 (legal_at terms shape false shards are all legal place there.0 there.1)
 
+-- the steps that a shard gave up
+abbrev pub given_up_by : ShardView → List Step
+given_up_by shard = if shard.terms.rolls then shard.history else []
+
+-- with those in memory they are its history
+pub given_up-kept : (shard : ShardView) → given_up_by shard ++ kept_of shard ≡ shard.history
+given_up-kept shard = by shard.terms.rolls
+  where
+    by : (rolls : Bool) → (if rolls then shard.history else []) ++ (if rolls then [] else shard.history) ≡ shard.history
+    by true = append-nil shard.history
+    by false = refl
+
 -- and the steps that shards have in memory are the last of a legal history
-pub last_of : (terms : ℕ → Terms) (shape : Shape) (rolls : Bool) (shards : List ShardView) → ((place : ℕ) → terms place ≡ hub_terms shape true place)
+pub last_of : (terms : ℕ → Terms) (shape : Shape) (shards : List ShardView) → ((place : ℕ) → terms place ≡ hub_terms shape true place)
     → AreAll terms shards → AreLegal shards
     → (place : ℕ) (steps : List Step) → slice_get (kept_in shards) place ≡ Some steps → IsLeft shape true place steps
-last_of terms shape rolls shards are all legal place steps is =
+last_of terms shape shards are all legal place steps is =
     let there = unmapped kept_of (slice_get shards place) steps (sym (slice_get-map kept_of shards place) ∙ is) in
     let shard = there.0 in
-    let parts : take shard.gone shard.history ++ steps ≡ shard.history =
-    ap (λ (l : List Step). take shard.gone shard.history ++ l) (sym there.2) ∙ take-append-drop shard.gone shard.history in
+    let parts : given_up_by shard ++ steps ≡ shard.history = ap (λ (l : List Step). given_up_by shard ++ l) (sym there.2) ∙ given_up-kept shard in
     record {
-      given_up = take shard.gone shard.history;
+      given_up = given_up_by shard;
       legal = subst (λ (h : List Step). Legal (hub_terms shape true place) h) (sym parts)
           (legal_at terms shape true shards are all legal place shard there.1);
     }

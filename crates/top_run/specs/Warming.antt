@@ -1,5 +1,5 @@
 -- What is there between two loads of which the second takes over what is still right.
-use Rattle.std.specs.Prelude.{ℕ, ◌≡◌, ◌≢◌, ◌<◌, ◌≤◌, ◌-◌, ◌^◌, false, List, [], ◌∷◌, ◌++◌, length, drop, map, All, AllPairs}
+use Rattle.std.specs.Prelude.{Bool, ℕ, ◌≡◌, ◌≢◌, ◌<◌, ◌≤◌, ◌-◌, ◌^◌, false, List, [], ◌∷◌, ◌++◌, length, drop, map, All, AllPairs}
 use Rattle.std.specs.Prelude.{Option, Some, None, IfSome, IsSome, is_none, slice_get, unwrap_or, vec_capacity}
 use Rattle.std.specs.Prelude.{Vec}
 use Rattle.std.specs.Global.{Global}

@@ -1,5 +1,5 @@
 // New shards, into which the dumps of old ones are loaded.
-ghost use Rattle.std.specs.Prelude.{◌≡◌, ◌<◌, ◌-◌, ◌^◌, [], None, IfOk, map};
+ghost use Rattle.std.specs.Prelude.{false, ◌≡◌, ◌<◌, ◌-◌, ◌^◌, [], None, IfOk, map};
 ghost use Rattle.run_inputs.specs.declared.loads.WorkSpec.{WorkSpec};
 ghost use Rattle.run_inputs.specs.Loads.{IsWork};
 ghost use Rattle.top_run.specs.declared.dumps.Dumped.{Dumped};

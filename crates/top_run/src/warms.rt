@@ -1,6 +1,6 @@
 // The run of two loads: the second is run over a new cache, which takes over what is still right in that of the
 // first.
-ghost use Rattle.std.specs.Prelude.{◌≡◌, ◌≢◌, ◌≤◌, ℕ, [], List, Option, Some, None, IfOk, IfErr, OnErr, IsErr, IsSome, map, vec_capacity};
+ghost use Rattle.std.specs.Prelude.{false, ◌≡◌, ◌≢◌, ◌≤◌, ℕ, [], List, Option, Some, None, IfOk, IfErr, OnErr, IsErr, IsSome, map, vec_capacity};
 ghost use Rattle.std.specs.Bool.{IsFalse};
 ghost use Rattle.std.specs.Option.{ForSome};
 ghost use Rattle.rows_model.specs.Rows.{Tables};

@@ -1,4 +1,4 @@
-use Rattle.std.proofs.Common.{◌≡◌, None}
+use Rattle.std.proofs.Common.{false, ◌≡◌, None}
 use Rattle.run_audit.specs.Findings.{IsNumbered}
 use Rattle.test_values.proofs.audits.shard_after.Given as goal
 

@@ -48,7 +48,7 @@ returns-clause-ended g c = λ unread rows start held first starts opens begun.
     (opened_since held shape c.args.store.ledger.opening c.args.store.known_rows store.known_rows before_now opens) in
     let many : length (kept_in shards) ≡ shape.shards =
     length-map shards kept_of ∙ c.serve_over_hub-store.ensures.as_many ∙ c.requires.ready.as_many in
-    let last = last_of g.H.HubName.terms shape 256 shards c.requires.named.terms_are c.serve_over_hub-store.ensures.all c.serve_over_hub-store.ensures.legal in
+    let last = last_of g.H.HubName.terms shape shards c.requires.named.terms_are c.serve_over_hub-store.ensures.all c.serve_over_hub-store.ensures.legal in
     let kept = is_kept shape serve_rolls held before after store (kept_in shards) g.H.HubName.start refl refl (c.requires.named.start_is ∙ starts)
     c.ended_hub.ensures.short (named.cap_is ∙ c.requires.named.cap_is) c.ended_hub.ensures.told c.ended_hub.ensures.since
     last many opened (λ whole some. absurd cc) (λ whole. absurd cc) in

@@ -1,4 +1,4 @@
-use Rattle.std.proofs.Common.{arith, ◌≡◌, List, [], ◌∷◌, ◌++◌, Option, None, map, refl, sym, ap, subst, ◌∙◌, inl, inr, ℕ}
+use Rattle.std.proofs.Common.{false, arith, ◌≡◌, List, [], ◌∷◌, ◌++◌, Option, None, map, refl, sym, ap, subst, ◌∙◌, inl, inr, ℕ}
 use Rattle.std.specs.Prelude.{IsSome}
 use Rattle.std.proofs.lemmas.List.{append-nil}
 use Rattle.rows_model.specs.Rows.{Tables}

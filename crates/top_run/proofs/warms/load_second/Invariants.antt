@@ -1,4 +1,4 @@
-use Rattle.std.proofs.Common.{None, length}
+use Rattle.std.proofs.Common.{false, None, length}
 use Rattle.core_history.specs.Machine.{log_cap}
 use Rattle.top_run.specs.Works.{work_shape, hub_terms}
 use Rattle.top_run.specs.Warming.{before_of}

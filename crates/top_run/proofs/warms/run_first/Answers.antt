@@ -1,4 +1,4 @@
-use Rattle.std.proofs.Common.{arith, ◌≡◌, [], ◌∷◌, List, None, length, map, refl, sym, ap, subst, ◌∙◌, inl}
+use Rattle.std.proofs.Common.{false, arith, ◌≡◌, [], ◌∷◌, List, None, length, map, refl, sym, ap, subst, ◌∙◌, inl}
 use Rattle.std.specs.Prelude.{IsSome, Option, Vec}
 use Rattle.std.specs.Global.{Global}
 use Rattle.std.specs.List.{AllByRecursion}

@@ -1,4 +1,4 @@
-use Rattle.std.proofs.Common.{arith, ℕ, ◌≡◌, ◌≤◌, List, [], Some, None, length, map, refl, sym, ap, subst, ◌∙◌, inr}
+use Rattle.std.proofs.Common.{false, arith, ℕ, ◌≡◌, ◌≤◌, List, [], Some, None, length, map, refl, sym, ap, subst, ◌∙◌, inr}
 use Rattle.std.specs.Prelude.{IfOk, IsSome, Option, Vec, nat_lt}
 use Rattle.std.specs.Global.{Global}
 use Rattle.std.specs.List.{AllByRecursion}

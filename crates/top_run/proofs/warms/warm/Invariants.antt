@@ -1,4 +1,4 @@
-use Rattle.std.proofs.Common.{[], Some, None}
+use Rattle.std.proofs.Common.{false, [], Some, None}
 use Rattle.core_history.specs.Machine.{log_cap}
 use Rattle.top_run.specs.Works.{work_shape, hub_terms}
 use Rattle.top_run.proofs.warms.warm.Given as goal

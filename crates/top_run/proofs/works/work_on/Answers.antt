@@ -1,4 +1,4 @@
-use Rattle.std.proofs.Common.{arith, Bool, None, List, ◌≡◌, length, map, refl, sym, ap, subst, ◌∙◌}
+use Rattle.std.proofs.Common.{false, arith, Bool, None, List, ◌≡◌, length, map, refl, sym, ap, subst, ◌∙◌}
 use Rattle.run_audit.specs.Findings.{histories_in, AreWhole}
 use Rattle.std.specs.Prelude.{nat_lt, Option, IsSome, Vec}
 use Rattle.std.specs.Global.{Global}
