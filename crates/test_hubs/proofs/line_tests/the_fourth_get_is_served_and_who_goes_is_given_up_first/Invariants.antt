@@ -1,11 +1,11 @@
-use Rattle.std.proofs.Common.{[], Some, None}
+use Rattle.std.proofs.Common.{[], false, Some, None}
 use Rattle.shard_lock.specs.Names.{terms_at}
 use Rattle.test_hubs.proofs.line_tests.the_fourth_get_is_served_and_who_goes_is_given_up_first.Given as goal
 
 -- what the shards are made with, and the store as it is handed in
 abbrev pub ghosts-goes_well-H-HubName : goal.ghosts-goes_well-H-HubName
 ghosts-goes_well-H-HubName g a = record {
-  terms = terms_at a.shape.now.shards a.shape.now.room a.shape.now.life None;
+  terms = terms_at a.shape.now.shards a.shape.now.room a.shape.now.life false;
   opening = a.store.ledger.opening;
   cap = a.store.ledger.cap;
   known_rows = a.store.known_rows;

@@ -1,11 +1,11 @@
-use Rattle.std.proofs.Common.{[], Some, None}
+use Rattle.std.proofs.Common.{[], false, Some, None}
 use Rattle.shard_lock.specs.Names.{terms_at}
 use Rattle.test_hubs.proofs.runs.run_plans.Given as goal
 
 -- what the shards are made with, and the store as it is handed in
 abbrev pub ghosts-run_on-H-HubName : goal.ghosts-run_on-H-HubName
 ghosts-run_on-H-HubName g a = record {
-  terms = terms_at a.shape.now.shards a.shape.now.room a.shape.now.life None;
+  terms = terms_at a.shape.now.shards a.shape.now.room a.shape.now.life false;
   opening = a.store.ledger.opening;
   cap = a.store.ledger.cap;
   known_rows = a.store.known_rows;
