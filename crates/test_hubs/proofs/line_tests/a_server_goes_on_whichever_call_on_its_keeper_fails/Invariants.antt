@@ -1,4 +1,4 @@
-use Rattle.std.proofs.Common.{[], false, Some, None}
+use Rattle.std.proofs.Common.{[], false, Some}
 use Rattle.shard_lock.specs.Names.{terms_at}
 use Rattle.test_hubs.proofs.line_tests.a_server_goes_on_whichever_call_on_its_keeper_fails.Given as goal
 

@@ -1,4 +1,4 @@
-use Rattle.std.proofs.Common.{[], false, Some, None}
+use Rattle.std.proofs.Common.{[], false, Some}
 use Rattle.shard_lock.specs.Names.{terms_at}
 use Rattle.test_hubs.proofs.line_tests.the_fourth_get_is_served_and_who_goes_is_given_up_first.Given as goal
 

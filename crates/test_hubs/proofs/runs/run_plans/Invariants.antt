@@ -1,4 +1,4 @@
-use Rattle.std.proofs.Common.{[], false, Some, None}
+use Rattle.std.proofs.Common.{[], false, Some}
 use Rattle.shard_lock.specs.Names.{terms_at}
 use Rattle.test_hubs.proofs.runs.run_plans.Given as goal
 
