@@ -426,6 +426,13 @@ impl Shard {
         self.body.entries.peek(key)
     }
 
+    /// Whether it rolls. A whole shard doesn't. It takes no memory.
+    pub fn rolls(&self) -> bool
+        ensures { result ≡ is_some self.now.terms.keep }
+    {
+        self.body.keep.is_some()
+    }
+
     /// A time before which no lease to read is past its deadline, so that `lapse` finds none until then. It
     /// takes no memory.
     pub fn next_lapse(&self) -> u64
