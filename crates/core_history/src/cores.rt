@@ -17,7 +17,7 @@ use expiry_sweeper::Sweeper;
 use key_shard::{Shard, Step};
 use rows_model::{Memory, Rows, Sid};
 use session_client::{Plan, Session, Shape, Turn};
-use sql_keeper::{Commit, KeepFault, Keeper, NoStore, Place, Store};
+use sql_keeper::{Commit, CommitLog, KeepFault, Keeper, NoStore, Place, Store};
 use std::alloc::Global;
 use std::marker::Model;
 
@@ -245,7 +245,7 @@ impl<K: Keeper> Core<K> {
 
     /// Takes the core apart into its keeper, the rows that the keeper started with, the log and the
     /// shards. It takes no memory.
-    pub fn into_parts(self) -> (K, Rows, Vec<Commit>, Vec<Shard>)
+    pub fn into_parts(self) -> (K, Rows, CommitLog, Vec<Shard>)
         ensures started { K.is_started result.0 }
         ensures rows { K.rows result.0 ≡ self.store.known_rows }
         ensures faults { K.faults result.0 ≡ self.store.faults }

@@ -15,7 +15,7 @@ use Rattle.key_shard.specs.Shards.{ShardView, kept_of}
 use Rattle.sql_keeper.specs.declared.faults.KeepFault.{KeepFault}
 use Rattle.sql_keeper.specs.declared.faults.KeepFault.TheVariants as causes
 use Rattle.sql_keeper.specs.declared.stores.Commit.{Commit}
-use Rattle.sql_keeper.specs.Log.{rows_after}
+use Rattle.sql_keeper.specs.Log.{rows_after, keeps_log, no_cap}
 use Rattle.sql_keeper.specs.Stores.{StoreView}
 use Rattle.shard_lock.specs.Names.{AreAll, AreLegal, IsNamed}
 use Rattle.shard_dump.specs.declared.rows.Dump.{Dump}
@@ -36,7 +36,7 @@ use Rattle.conn_server.specs.declared.ends.LineEnd.{LineEnd}
 use Rattle.door_workers.specs.DoorSeen.{DoorSeen}
 use Rattle.top_run.specs.declared.serves.Begun.{Begun}
 use Rattle.top_run.specs.declared.serves.Begun.TheVariants as cache
-use Rattle.top_run.specs.Serves.{BeginsBy, IsAttended, IsServedText, serve_rolls, serve_shape}
+use Rattle.top_run.specs.Serves.{cap_beside, BeginsBy, IsAttended, IsServedText, serve_rolls, serve_shape}
 use Rattle.top_run.specs.Warming.{AreRight, IsRightBehind}
 use Rattle.top_run.specs.Works.{hub_terms}
 use Rattle.top_run.proofs.WarmingLemmas.{to_load}
@@ -144,6 +144,23 @@ ends_as (Some path) status.KeepFault after log shards old new ends = inl ends.0
 ends_as (Some path) (status.Spent shard) after log shards old new ends = inl ends.0
 ends_as (Some path) status.FileFault after log shards old new ends = inl ends.0
 ends_as (Some path) status.Memory after log shards old new ends = inl ends.0
+
+-- where no file is named it doesn't matter which log is looked at
+pub ends_by_log : (path : Option (Vec ℕ Global)) (before after : Status) (given log : List Commit) (shards : List ShardView) (old new : Files)
+    → (IsSome path → given ≡ log) → EndsSaved path before after given shards old new → EndsSaved path before after log shards old new
+ends_by_log None before after given log shards old new same ends = ends
+ends_by_log (Some path) before after given log shards old new same ends =
+    subst (λ (l : List Commit). EndsSaved (Some path) before after l shards old new) (same refl) ends
+
+-- a server with a file for its cache keeps its log
+pub keeps_beside : (path : Option (Vec ℕ Global)) (cap : ℕ) → IsSome path → cap ≡ cap_beside path → keeps_log cap ≡ true
+keeps_beside None cap some is = absurd (false≢true some)
+keeps_beside (Some path) cap some is = ap keeps_log is
+
+-- a server takes no more commits than a number can count
+pub cap_fits : (path : Option (Vec ℕ Global)) (cap : ℕ) → cap ≡ cap_beside path → cap ≤ no_cap
+cap_fits None cap is = omega (arith, is)
+cap_fits (Some path) cap is = omega (arith, is)
 
 not_new : (path : Option (Vec ℕ Global)) (begun : Begun) → IsSome path → BeginsBy path begun → begun ≢ cache.New
 not_new None begun some begins = absurd (false≢true some)

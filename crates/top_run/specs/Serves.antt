@@ -6,6 +6,8 @@ use Rattle.iq_outside.specs.Outside.{Rose}
 use Rattle.rows_model.specs.Rows.{Tables}
 use Rattle.session_client.specs.declared.plans.Shape.{Shape}
 use Rattle.core_history.specs.Lines.{line}
+use Rattle.core_history.specs.Machine.{log_cap}
+use Rattle.sql_keeper.specs.Log.{no_cap}
 use Rattle.top_run.specs.declared.runs.Phase.{Phase}
 use Rattle.top_run.specs.declared.runs.RunEnd.{RunEnd}
 use Rattle.top_run.specs.declared.runs.Status.{Status}
@@ -27,6 +29,14 @@ use Rattle.top_run.specs.Works.{IsKept}
 -- The shape of a server's hub: so many members and shards, room for 4,096 entries in each, and leases that live 10 seconds.
 abbrev pub serve_shape : ServeSpec → Shape
 serve_shape spec = record { members = spec.members; shards = spec.shards; room = 4096; life = 10000 }
+
+-- How many commits a server takes: with a file for its cache as many as a load, and else as many as a number can count.
+abbrev pub cap_beside : Option (Vec ℕ Global) → ℕ
+cap_beside (Some path) = log_cap
+cap_beside None = no_cap
+
+abbrev pub serve_cap : ServeSpec → ℕ
+serve_cap spec = cap_beside spec.warm
 
 -- A server's shards roll: each gives up its steps as they come.
 abbrev pub serve_rolls : Bool

@@ -4,7 +4,6 @@ ghost use Rattle.std.specs.Bool.{IsFalse};
 ghost use Rattle.std.specs.Option.{ForSome};
 ghost use Rattle.iq_outside.specs.Outside.{Rose};
 ghost use Rattle.rows_model.specs.Rows.{Tables};
-ghost use Rattle.core_history.specs.Machine.{log_cap};
 ghost use Rattle.sql_keeper.specs.Stores.{opened};
 ghost use Rattle.shard_lock.specs.Names.{AreAll, AreLegal, IsNamedStore};
 ghost use Rattle.bound_hub.specs.Ties.{IsNewStore};
@@ -12,7 +11,7 @@ ghost use Rattle.top_run.specs.Ready.{IsServeReady, MakeHub, NamesParts};
 ghost use Rattle.top_run.specs.Runs.{Held, Input, Prints, moment, seen, held_at, IsOpened, RoseWhere, CountsWhere, left_at, is_read_fault, is_write_fault, is_door_fault, is_file_fault};
 ghost use Rattle.top_run.specs.Begins.{FilesSeen, HasBegun, beginning_of, files_seen};
 ghost use Rattle.top_run.specs.Saves.{SavesAt};
-ghost use Rattle.top_run.specs.Serves.{serve_shape, serve_rolls, begun_line, cold_words, ready_text, served_line, BeginsBy, IsServedText, HasServed, course_of, ServeEnded};
+ghost use Rattle.top_run.specs.Serves.{serve_shape, serve_rolls, serve_cap, begun_line, cold_words, ready_text, served_line, BeginsBy, IsServedText, HasServed, course_of, ServeEnded};
 ghost use Rattle.top_run.specs.Warming.{AreRight, IsAnew, IsServeReadyAnew, NamesAnew};
 ghost use Rattle.run_words.specs.Words.{IsServe, most_served};
 ghost use Rattle.door_workers.specs.Attending.{seen_at};
@@ -42,7 +41,7 @@ use rows_model::Memory;
 use run_words::ServeSpec;
 use session_client::{Desk, Shape};
 use shard_lock::StartOf;
-use sql_keeper::{Keeper, NoStore, Place, Start, Store};
+use sql_keeper::{Keeper, NO_CAP, NoStore, Place, Start, Store};
 use std::alloc::Global;
 use std::marker::Brand;
 use std::sync::Wait;
@@ -150,7 +149,7 @@ pub(crate) fn serve<
     let Ok(ready) = ready_for(alloc, spec) else {
         return not_started(alloc, Status::Memory, keeper);
     };
-    match Store::new(alloc, keeper, place, spec.members, CAP) {
+    match Store::new(alloc, keeper, place, spec.members, cap_of(spec)) {
         Ok(store) => {
             let server = Server {
                 rt,
@@ -198,6 +197,16 @@ fn shape_of(spec: &ServeSpec) -> Shape
     }
 }
 
+/// How many commits a server takes. With a file for its cache its log is kept in memory for the end.
+fn cap_of(spec: &ServeSpec) -> u64
+    ensures { result ≡ serve_cap spec.now }
+{
+    match spec.warm {
+        Some(_) => CAP,
+        None => NO_CAP,
+    }
+}
+
 /// Names the count of faults of a store that was just started, begins the cache, and serves.
 fn serve_begun<
     N: Start,
@@ -218,7 +227,8 @@ fn serve_begun<
 ) -> RunEnd<K>
     requires serve { IsServe server.now.spec.now }
     requires start { N.count ≡ Some store.faults }
-    requires new { store.ledger ≡ opened store.ledger.opening log_cap }
+    requires new { store.ledger ≡ opened store.ledger.opening
+        (serve_cap server.now.spec.now) }
     requires ready { IsServeReady server.now.spec.now
         (hub_terms (serve_shape server.now.spec.now) serve_rolls) ready }
     ensures ended { (unread : Input) (rows : Option Tables) (held : Held) →
@@ -294,7 +304,7 @@ fn serve_store<
     door: &mut D,
 ) -> RunEnd<K>
     requires serve { IsServe server.now.spec.now }
-    requires anew { IsAnew store }
+    requires anew { IsAnew (serve_cap server.now.spec.now) store }
     requires ready { IsServeReadyAnew server.now.spec.now
         store.known_rows store.ledger.opening ready }
     requires named { NamesAnew (serve_shape server.now.spec.now) serve_rolls store N.count H.start

@@ -14,7 +14,7 @@ use Rattle.top_run.specs.declared.runs.Status.TheVariants as status
 use Rattle.top_run.specs.Warming.{AreRight}
 use Rattle.top_run.proofs.AnewLemmas.{new_store}
 use Rattle.top_run.proofs.BeginLemmas.{begins_still}
-use Rattle.top_run.proofs.SaveLemmas.{attended_saved, by_end, ends_as, rooms_of, saves_at}
+use Rattle.top_run.proofs.SaveLemmas.{attended_saved, by_end, ends_as, rooms_of, saves_at, cap_fits, ends_by_log, keeps_beside}
 use Rattle.top_run.proofs.WarmStartLemmas.{make_serving}
 use Rattle.top_run.proofs.WorkLemmas.{last_of, left_of, is_kept, numbered_of}
 use Rattle.top_run.proofs.ServeLemmas.{served_ended, no_usage, no_read}
@@ -29,7 +29,7 @@ serve_over_hub-store-requires-clause-parts g c =
 pub serve_over_hub-store-requires-clause-new : goal.serve_over_hub-store-requires-clause-new
 serve_over_hub-store-requires-clause-new g c =
     λ κs outlives. rw c.renamed.ensures
-    (new_store (serve_shape c.args.server.now.spec.now) serve_rolls c.args.store _ _ _ _ _ _ _ _ _ _ _ _ _ c.requires.anew c.requires.named)
+    (new_store (serve_shape c.args.server.now.spec.now) serve_rolls c.args.store _ _ _ _ _ _ _ _ _ _ _ _ _ _ c.requires.anew c.requires.named)
 
 pub returns-clause-ended : goal.returns-clause-ended
 returns-clause-ended g c = λ unread rows start held first starts opens begun.
@@ -50,7 +50,7 @@ returns-clause-ended g c = λ unread rows start held first starts opens begun.
     length-map shards kept_of ∙ c.serve_over_hub-store.ensures.as_many ∙ c.requires.ready.as_many in
     let last = last_of g.H.HubName.terms shape shards c.requires.named.terms_are c.serve_over_hub-store.ensures.all c.serve_over_hub-store.ensures.legal in
     let kept = is_kept shape serve_rolls held before after store (kept_in shards) g.H.HubName.start refl refl (c.requires.named.start_is ∙ starts)
-    c.ended_hub.ensures.short (named.cap_is ∙ c.requires.named.cap_is) c.ended_hub.ensures.told c.ended_hub.ensures.since
+    c.ended_hub.ensures.short (cap_fits spec.warm _ (named.cap_is ∙ c.requires.named.cap_is ∙ c.requires.anew.cap_is)) c.ended_hub.ensures.told c.ended_hub.ensures.since
     last many opened (λ whole some. absurd cc) (λ whole. absurd cc) in
     let course : Course = record {
       held = held;
@@ -160,7 +160,10 @@ returns-clause-saves g c =
     (c.serve_over_hub-store.ensures.as_many ∙ c.requires.ready.as_many) c.serve_over_hub-store.ensures.legal
     (λ some. subst (λ (t : Tables). AreRight t store.ledger.log shards) (sym c.serve_over_hub-store.ensures.store.opening_is) (c.serve_over_hub-store.ensures.right some))
     spec.warm c.serve_over_hub-store.result.served.status c.saved-status.result _ _
-    (rw (c.as_slice.ensures.value, c.log.ensures.items) at c.saved-status.ensures.saves))
+    (ends_by_log spec.warm c.serve_over_hub-store.result.served.status c.saved-status.result c.log.result.now store.ledger.log shards _ _
+    (λ some. c.log.ensures.items (keeps_beside spec.warm _ some
+    (c.serve_over_hub-store.ensures.store.cap_is ∙ c.requires.named.cap_is ∙ c.requires.anew.cap_is)))
+    (rw c.as_slice.ensures.value at c.saved-status.ensures.saves)))
 
 pub returns-clause-file_fault : goal.returns-clause-file_fault
 returns-clause-file_fault g c = rw c.ended_hub.ensures.status c.saved-status.ensures.file_fault
