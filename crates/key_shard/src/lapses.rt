@@ -4,7 +4,7 @@ ghost use Rattle.lease_table.specs.Lapses.{HasLapsed, NoneLapsed, NoneLapsedBefo
 ghost use Rattle.key_shard.specs.Answers.{Answers};
 ghost use Rattle.key_shard.specs.Kept.{IsKept, shown, steps_of, terms_of};
 ghost use Rattle.key_shard.specs.Past.{recorded};
-ghost use Rattle.key_shard.specs.Shards.{rolled, stepped};
+ghost use Rattle.key_shard.specs.Shards.{stepped};
 
 use crate::bodies::Body;
 use crate::steps::Step;
@@ -38,7 +38,7 @@ impl Body {
         requires lapsed { HasLapsed now (λ key. recorded key (steps_of self.old)) lapse }
         ensures kept { IsKept self.new }
         ensures ok { OnOk result (shown self.new
-            ≡ stepped (rolled (shown self.old)) (Step.Void lapse.key lapse.token now)) }
+            ≡ stepped (shown self.old) (Step.Void lapse.key lapse.token now)) }
         ensures err { OnErr result (shown self.new ≡ shown self.old) }
     {
         self.void(lapse.key, lapse.token, now)
@@ -52,12 +52,12 @@ impl Body {
             (Step.Void key token now) }
         ensures kept { IsKept self.new }
         ensures ok { OnOk result (shown self.new
-            ≡ stepped (rolled (shown self.old)) (Step.Void key token now)) }
+            ≡ stepped (shown self.old) (Step.Void key token now)) }
         ensures err { OnErr result (shown self.new ≡ shown self.old) }
     {
         self.history.make_room(self.promised, 1)?;
         let _ = self.leases.end_lapsed(&key, token, now);
-        self.history.push(self.keep, Step::Void { key, token, now });
+        self.history.push(Step::Void { key, token, now });
         Ok(())
     }
 }

@@ -428,9 +428,9 @@ impl Shard {
 
     /// Whether it rolls. A whole shard doesn't. It takes no memory.
     pub fn rolls(&self) -> bool
-        ensures { result ≡ is_some self.now.terms.keep }
+        ensures { result ≡ self.now.terms.rolls }
     {
-        self.body.keep.is_some()
+        self.body.history.rolls()
     }
 
     /// A time before which no lease to read is past its deadline, so that `lapse` finds none until then. It
@@ -447,7 +447,7 @@ impl Shard {
     /// which no later request can tell. For want of memory everything is as before.
     pub fn lapse(&mut self, now: u64) -> Result<Option<Lapse>, Memory>
         ensures step { IfOk result (λ found. IfSome found (λ lapse. self.new
-            ≡ stepped (rolled self.old) (Step.Void lapse.key lapse.token now))) }
+            ≡ stepped self.old (Step.Void lapse.key lapse.token now))) }
         ensures lapsed { IfOk result (λ found. IfSome found
             (HasLapsed now (λ key. recorded key (past_of self.old)))) }
         ensures least { IfOk result (λ found. IfSome found
@@ -460,11 +460,7 @@ impl Shard {
         let Some(lapse) = self.body.first_lapsed(now) else {
             return Ok(None);
         };
-        let base = self.next_base();
         self.body.end_lapsed(lapse, now)?;
-        if let Some(base) = base {
-            self.base = base;
-        }
         Ok(Some(lapse))
     }
 }

@@ -63,12 +63,7 @@ pub fn record_quar(
 }
 
 /// Ends the lease to read that is recorded on the key.
-pub fn end_read(
-    leases: &mut LeaseMap,
-    lapses: &mut Lapses,
-    key: &QKey,
-    was: Option<ReadLease>,
-)
+pub fn end_read(leases: &mut LeaseMap, lapses: &mut Lapses, key: &QKey, was: Option<ReadLease>)
     requires listed { AreListed leases.old lapses.old }
     requires was { was ≡ first (reads_of (leases_on key.now leases.old)) }
     ensures puts { PutsOn key.now [] [] leases.old leases.new }

@@ -9,7 +9,9 @@ use crate::dues::first_due;
 use crate::edits::{Change, change_quar, drop_quar};
 use crate::index::Index;
 use crate::lapses::Lapses;
-use crate::lookups::{OnKey, holder_of, is_current_at, is_lapsed_at, on_key, other_quar, quar_with};
+use crate::lookups::{
+    OnKey, holder_of, is_current_at, is_lapsed_at, on_key, other_quar, quar_with,
+};
 use crate::readers::{end_read, record_quar, record_read};
 use crate::records::{Due, Lapse, LeaseMap, Mode, Quar, ReadLease};
 use case_tables::Verdict;
@@ -41,7 +43,7 @@ impl Model for Leases {
     ghost view = { λ table. records table.leases.entries };
 
     ghost invariant = { λ table.
-      IsKept table.leases table.index × AreListed table.leases table.lapses };
+        IsKept table.leases table.index × AreListed table.leases table.lapses };
 }
 
 impl Leases {
@@ -171,7 +173,14 @@ impl Leases {
             | Verdict::Gone => {}
             Verdict::Give | Verdict::Void | Verdict::Join => {
                 self.index.list(&self.leases, key, &q)?;
-                record_quar(&mut self.leases, &mut self.lapses, self.alloc, key, reader, q)?;
+                record_quar(
+                    &mut self.leases,
+                    &mut self.lapses,
+                    self.alloc,
+                    key,
+                    reader,
+                    q,
+                )?;
             }
         }
         Ok(verdict)

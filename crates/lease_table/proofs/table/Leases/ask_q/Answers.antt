@@ -13,8 +13,7 @@ record_quar-requires-clause-was c =
 
 pub invariant_of-self-in_err-record_quar-in-Give : goal.invariant_of-self-in_err-record_quar-in-Give
 invariant_of-self-in_err-record_quar-in-Give c =
-    let listed = IsKept-index c.self.inside.leases c.self.inside.index c.list.new.self c.self.invariant.0 c.list.ensures.sound c.list.ensures.lists in
-    (
+    let listed = IsKept-index c.self.inside.leases c.self.inside.index c.list.new.self c.self.invariant.0 c.list.ensures.sound c.list.ensures.lists in (
       IsKept-stays c.self.inside.leases c.record_quar.new.leases c.list.new.self listed c.in_err-record_quar-in-Give.ensures.err,
       c.record_quar.ensures.listed,
     )
@@ -24,12 +23,13 @@ invariant_of-self-in-Continue-branch-2 c =
     let reader = rw (← c.self.view_is) at c.on_key-there.ensures.reader in
     let stood = rw (← c.self.view_is) at c.on_key-there.ensures.quars in
     let below = rw (← c.self.view_is) at c.requires in
-    let given : is_given c.quar_verdict-verdict.result ≡ true = search rules in
-    (IsKept-quar c.args.key c.args.q c.self.inside.leases c.record_quar.new.leases c.self.inside.index c.self.invariant.0 below
-    c.in_ok-record_quar-in-Give.ensures.ok c.args.now c.quar_verdict-verdict.result (c.quar_verdict-verdict.ensures
-    ∙ (λ i. verdict (holding_of c.args.q.sid c.args.now (reader i) (stood i)) (quarantine (way_of c.args.q.mode)))) given
-    c.list.new.self c.list.ensures.sound c.list.ensures.lists c.in_ok-list-in-Give.ensures.listed,
-    c.record_quar.ensures.listed)
+    let given : is_given c.quar_verdict-verdict.result ≡ true = search rules in (
+      IsKept-quar c.args.key c.args.q c.self.inside.leases c.record_quar.new.leases c.self.inside.index c.self.invariant.0 below
+          c.in_ok-record_quar-in-Give.ensures.ok c.args.now c.quar_verdict-verdict.result (c.quar_verdict-verdict.ensures
+          ∙ (λ i. verdict (holding_of c.args.q.sid c.args.now (reader i) (stood i)) (quarantine (way_of c.args.q.mode)))) given
+          c.list.new.self c.list.ensures.sound c.list.ensures.lists c.in_ok-list-in-Give.ensures.listed,
+      c.record_quar.ensures.listed,
+    )
 
 pub returns-in_ok-record_quar-in-Give-clause-after : goal.returns-in_ok-record_quar-in-Give-clause-after
 returns-in_ok-record_quar-in-Give-clause-after c =

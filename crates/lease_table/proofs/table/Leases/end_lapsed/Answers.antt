@@ -13,10 +13,9 @@ end_read-requires-clause-was c =
 pub invariant_of-self : goal.invariant_of-self
 invariant_of-self c =
     let reader = rw (← c.self.view_is) at c.on_key-reader.ensures.reader in
-    let lapsed = ap (is_lapsed c.args.token c.args.now) (sym reader) ∙ sym c.is_lapsed_at.ensures ∙ c.if-not-is_lapsed_at.false in
-    (
+    let lapsed = ap (is_lapsed c.args.token c.args.now) (sym reader) ∙ sym c.is_lapsed_at.ensures ∙ c.if-not-is_lapsed_at.false in (
       IsKept-lapsed c.args.key.now c.args.token c.args.now c.self.inside.leases
-      c.end_read.new.leases c.self.inside.index c.self.invariant.0 lapsed c.end_read.ensures.puts,
+          c.end_read.new.leases c.self.inside.index c.self.invariant.0 lapsed c.end_read.ensures.puts,
       c.end_read.ensures.listed,
     )
 

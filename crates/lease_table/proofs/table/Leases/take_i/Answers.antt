@@ -12,10 +12,11 @@ end_read-requires-clause-was c =
 pub invariant_of-self : goal.invariant_of-self
 invariant_of-self c =
     let reader = rw (← c.self.view_is) at c.on_key-reader.ensures.reader in
-    let current = ap (is_current c.args.token c.args.now) (sym reader) ∙ sym c.is_current_at.ensures ∙ c.if-not-is_current_at.false in
-    (IsKept-take c.args.key.now c.args.token c.args.now c.self.inside.leases
-    c.end_read.new.leases c.self.inside.index c.self.invariant.0 current c.end_read.ensures.puts,
-    c.end_read.ensures.listed)
+    let current = ap (is_current c.args.token c.args.now) (sym reader) ∙ sym c.is_current_at.ensures ∙ c.if-not-is_current_at.false in (
+      IsKept-take c.args.key.now c.args.token c.args.now c.self.inside.leases
+          c.end_read.new.leases c.self.inside.index c.self.invariant.0 current c.end_read.ensures.puts,
+      c.end_read.ensures.listed,
+    )
 
 pub returns-clause-after : goal.returns-clause-after
 returns-clause-after c =
