@@ -1,4 +1,4 @@
-ghost use Rattle.std.specs.Prelude.{◌≡◌, ◌≢◌, true, false, ◌↔◌, ◌≤◌, ◌<◌, ◌∷◌, ◌++◌, [], IfOk, OnOk, OnErr, IfErr, IfSome, IfNone, IsTrue, Some, None, option_map, is_some, min, length, ◌^◌, ◌-◌, ℕ};
+ghost use Rattle.std.specs.Prelude.{◌≡◌, ◌≢◌, true, false, ◌↔◌, ◌≤◌, ◌<◌, ◌∷◌, ◌++◌, [], IfOk, OnOk, OnErr, IfErr, IfSome, IfNone, IsTrue, Some, None, option_map, min, length, ◌^◌, ◌-◌, ℕ};
 ghost use Rattle.std.specs.Bool.{IsFalse};
 ghost use Rattle.lease_table.specs.Lapses.{HasLapsed, NoneLapsed, NoneLapsedBefore};
 ghost use Rattle.lease_table.specs.Expiry.{NoneDue, NoneDueBefore, StandsDue};
