@@ -6,7 +6,7 @@ ghost use Rattle.key_shard.specs.Past.{recorded, standing};
 ghost use Rattle.key_shard.specs.Shards.{past_of};
 ghost use Rattle.log_word.specs.Steps.{IsBeginning};
 
-use crate::bound_shards::{BoundShard, kept_steps};
+use crate::bound_shards::BoundShard;
 use crate::names::BoundName;
 use crate::step_shorts::set_short;
 use key_shard::SetAnswer;
@@ -48,7 +48,6 @@ impl<H: BoundName> BoundShard<H> {
         if !self.shard.rolls() {
             return None;
         }
-        let _kept = kept_steps(&self.shard);
         self.pass.sound();
         let Ok(Some(lapse)) = self.shard.lapse(now) else {
             return None;
