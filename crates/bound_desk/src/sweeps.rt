@@ -16,7 +16,7 @@ use sql_keeper::{Closed, Keeper};
 use std::marker::{Model, PhantomData};
 
 /// How many leases to read one step of a sweep drops at most.
-const LAPSES: usize = 32;
+const LAPSES: usize = 64;
 
 /// Drops leases to read on the shard that is lent that have lapsed, the earliest first, and no more than one
 /// step of a sweep may.
