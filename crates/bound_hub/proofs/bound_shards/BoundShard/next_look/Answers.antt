@@ -12,5 +12,5 @@ returns-then-rolls g c =
 
 pub returns-else-rolls : goal.returns-else-rolls
 returns-else-rolls g c =
-    subst (λ (v : BoundShardView). (now : ℕ) → now < c.next_due-2.result → NoneDue now (λ key. standing key (past_of v.shard)))
-    c.self.view_is c.next_due-2.ensures
+    subst (λ (v : BoundShardView). (now : ℕ) → now < c.next_due-else-rolls.result → NoneDue now (λ key. standing key (past_of v.shard)))
+    c.self.view_is c.next_due-else-rolls.ensures
