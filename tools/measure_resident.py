@@ -16,9 +16,9 @@ resident memory is read from /proc: VmRSS, and RssAnon in brackets, in KiB. Each
                 with a plain request now and then, and behind them plain requests, a quarter as many as keys, since a
                 server sweeps behind requests. It may be 8 MiB more than before the first miss
 
-On a machine that does nothing else all takes some six minutes, and beside other work three times that: the commits three to
-the misses a quarter of one. Standard error says how far it is, and how long it may take yet. A part that takes more than
-an hour is given up. Without --only all are made.
+On a machine that does nothing else all takes some six minutes: the commits three to four, the links one, the sessions one,
+the misses a quarter of one. Beside other work it may take three times that. Standard error says how far it is, and how long
+it may take yet. A part that takes more than an hour is given up. Without --only all are made.
 
 The status is 0 where each bound is met, 1 where one is missed, and 2 where something couldn't be measured.
 """
