@@ -214,9 +214,10 @@ impl<K: Keeper> Core<K> {
         self.clock
     }
 
-    /// The transactions that were committed, the earliest first.
+    /// The transactions that were committed, the earliest first. A core keeps them all in memory.
     pub fn log(&self) -> &[Commit]
-        ensures { result.now ≡ self.now.store.ledger.log }
+        ensures items { (origin : Origin) (moves : List Move) → HasKept self.now origin moves →
+            result.now ≡ self.now.store.ledger.log }
     {
         self.store.log()
     }
