@@ -1,5 +1,5 @@
 -- The rows of the entries that a store answers so.
-use Rattle.std.proofs.Common.{ℕ, ◌≡◌, ◌≢◌, ◌<◌, ◌≤◌, ◌^◌, ◌||◌, inl, inr, Bool, true, false, cond, List, [], ◌∷◌, ◌++◌, length, reverse, map, filter, Option, Some, None, option_map}
+use Rattle.std.proofs.Common.{ℕ, ◌≡◌, ◌≢◌, ◌<◌, ◌≤◌, ◌^◌, ◌||◌, inl, inr, Bool, true, false, cond, List, [], ◌∷◌, ◌++◌, length, reverse, map, filter, get_or, Option, Some, None, option_map}
 use Rattle.std.proofs.Common.{arith, refl, sym, ap, subst, ◌∙◌, append_assoc, append-nil}
 use Rattle.std.specs.Prelude.{All, AllPairs, IfOk, IsSome, Result, Ok, Err, nat_le, bytes_eq}
 use Rattle.std.specs.Global.{Vec}
@@ -228,10 +228,10 @@ is_dump known_rows tables shard rows text one_of few roomy legal are written =
         right = record { one_of = one_of; few_shards = few; few_rows = omega (arith, many, fewer) };
         rows = record {
           each = λ i d h. record {
-            id_from = (stands _ (are.stand i d h)).0;
+            id_from = (stands (get_or rows i d) (are.stand i d h)).0;
             id_below = are.ids i d h;
             at_home = home i d h;
-            short = (stands _ (are.stand i d h)).1;
+            short = (stands (get_or rows i d) (are.stand i d h)).1;
           };
           differ = pairs_of rows (among_apart rows (entry_rows (past_of shard)) are.among (keys_apart (past_of shard) (order (past_of shard)) (order_once (past_of shard))));
         };
@@ -239,3 +239,16 @@ is_dump known_rows tables shard rows text one_of few roomy legal are written =
       };
       answered = record { shard_is = refl; count_is = refl; among = are.among; right = are.right };
     }
+
+-- so it is of the rows that are handed over, and of the numbers that the shard tells
+pub text_is_dump : (known_rows : Option Tables) (tables : Tables) (shard : ShardView) (rows given : List DumpRow) (number count len : ℕ) (text : List ℕ)
+    → shard.terms.no < shard.terms.count → shard.terms.count ≤ 64 → shard.terms.room ≤ 65536 → Legal shard.terms shard.history
+    → AreRowsOf known_rows tables shard rows → given ≡ rows → number ≡ shard.terms.no → count ≡ shard.terms.count → len ≡ length rows
+    → text ≡ head_text (record { shard = number; count = count; rows = len }) ++ rows_text given ++ end_text
+    → IsAnsweredText known_rows tables shard text
+text_is_dump known_rows tables shard rows given number count len text one_of few roomy legal are a b c d written =
+    is_dump known_rows tables shard rows text one_of few roomy legal are
+    (written ∙ ap (λ (rs : List DumpRow). head_text (record { shard = number; count = count; rows = len }) ++ rows_text rs ++ end_text) a
+    ∙ ap (λ (n : ℕ). head_text (record { shard = n; count = count; rows = len }) ++ rows_text rows ++ end_text) b
+    ∙ ap (λ (n : ℕ). head_text (record { shard = shard.terms.no; count = n; rows = len }) ++ rows_text rows ++ end_text) c
+    ∙ ap (λ (n : ℕ). head_text (record { shard = shard.terms.no; count = shard.terms.count; rows = n }) ++ rows_text rows ++ end_text) d)

@@ -16,7 +16,7 @@ use Rattle.key_freshness.proofs.KnownLemmas.{stands-pushed, stands-within}
 use Rattle.key_shard.specs.Shards.{ShardView, kept_of, past_of}
 use Rattle.sql_keeper.specs.declared.faults.KeepFault.{KeepFault}
 use Rattle.sql_keeper.specs.declared.faults.KeepFault.TheVariants as causes
-use Rattle.sql_keeper.specs.Faults.{Counts}
+use Rattle.sql_keeper.specs.Faults.{Counts, has_failed}
 use Rattle.sql_keeper.specs.Log.{rows_after}
 use Rattle.sql_keeper.specs.Stores.{Ledger, StoreView, rows_of, with_call}
 use Rattle.shard_lock.specs.Names.{AreAll, AreLegal, IsNamed, IsNamedStore}
@@ -32,7 +32,7 @@ use Rattle.run_words.specs.declared.words.ServeSpec.{ServeSpec}
 use Rattle.top_run.specs.declared.runs.Status.{Status}
 use Rattle.top_run.specs.declared.runs.Status.TheVariants as status
 use Rattle.top_run.specs.Plays.{start_status}
-use Rattle.top_run.specs.Runs.{Left, kept_in}
+use Rattle.top_run.specs.Runs.{Left, kept_in, is_keep_fault}
 use Rattle.top_run.specs.Begins.{Files}
 use Rattle.top_run.specs.Saves.{EndsSaved, HasText, IsCacheOf, IsDumpedOf, IsSavedText, SavesAt, entries_in, right_in}
 use Rattle.conn_server.specs.declared.ends.LineEnd.{LineEnd}
@@ -196,6 +196,17 @@ attended_saved spec begun before after taken_old taken_new door_before door_afte
 }
 
 -- ---- the store once it was asked for the cache
+
+-- where it can't tell, nothing is written
+pub asked_in_vain : (path : Vec ℕ Global) (cause : KeepFault) (known : Option Tables) (rows : Tables) (shards : List ShardView) (files : Files)
+    → EndsSaved (Some path) status.Done (start_status cause) known rows shards files files
+asked_in_vain path causes.Failed known rows shards files = λ other. refl
+asked_in_vain path causes.Memory known rows shards files = λ other. refl
+
+-- and the end tells a fault exactly where a call failed
+pub failed_as : (cause : KeepFault) → is_keep_fault (start_status cause) ≡ has_failed cause
+failed_as causes.Failed = refl
+failed_as causes.Memory = refl
 
 pub called_opening : (failed : Bool) (ledger : Ledger) → (with_call failed ledger).opening ≡ ledger.opening
 called_opening true ledger = refl
