@@ -26,8 +26,8 @@ MeetsItsFloor other = Unit {0}
 abbrev pub HitsMeetTheirFloors : Type 0
 HitsMeetTheirFloors = (terms : Terms) (history : List Step) → Legal terms history → All MeetsItsFloor history
 
--- A shard shows the same after more steps as it showed before, from this time on: each entry, their order by use, what stands on each key as any
--- session sees it, and which tokens of leases to read stand.
+-- A shard shows the same after more steps as before: each entry, their order by use, and the quarantines. From this time on each session sees the
+-- same on each key, and the same tokens of leases to read stand.
 pub record ShowsTheSame (now : ℕ) (before after : List Step) : Type 0 where
   pub entries : (key : QKey) → entry key after ≡ entry key before
   pub by_use : order after ≡ order before
