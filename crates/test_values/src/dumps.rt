@@ -113,7 +113,9 @@ fn dumps_what_the_store_answers(rt: HostRuntime) {
     let shard = half_right(&rt, rt.alloc());
     match dump_answered(rt.alloc(), &shard, &mut rows) {
         Ok(text) => {
-            assert!(rt; text.as_slice() == b"iqdump 1 0 1 1\nprofile:3 6\nm3 0 0\nend\n".as_slice());
+            assert!(rt;
+                text.as_slice() == b"iqdump 1 0 1 1\nprofile:3 6\nm3 0 0\nend\n".as_slice()
+            );
         }
         Err(_) => panic!(rt; "no text"),
     }
@@ -128,7 +130,12 @@ fn tells_a_call_that_fails_as_it_asks(rt: HostRuntime) {
     }
     let mut rows = opened_over(&rt, rt.alloc(), MapKeeper::new(fails));
     let shard = half_right(&rt, rt.alloc());
-    assert!(rt; matches!(dump_answered(rt.alloc(), &shard, &mut rows), Err(KeepFault::Failed)));
+    assert!(rt;
+        matches!(
+            dump_answered(rt.alloc(), &shard, &mut rows),
+            Err(KeepFault::Failed)
+        )
+    );
     assert!(rt; rows.failed() == 1);
 }
 
