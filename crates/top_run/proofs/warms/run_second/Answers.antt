@@ -32,7 +32,7 @@ use Rattle.top_run.proofs.warms.run_second.Goals as goal
 
 pub run_plans-store-requires-clause-new : goal.run_plans-store-requires-clause-new
 run_plans-store-requires-clause-new g c =
-    λ κs outlives. rw c.renamed.ensures (new_store (work_shape c.args.warming.now.spec.now) false c.args.half.store _ _ _ _ _ _ _ _ _ _ _ _ _ c.requires.anew c.requires.named)
+    λ κs outlives. rw c.renamed.ensures (new_store (work_shape c.args.warming.now.spec.now) false c.args.half.store _ _ _ _ _ _ _ _ _ _ _ _ _ _ c.requires.anew c.requires.named)
 
 pub run_plans-store-requires-clause-ask : goal.run_plans-store-requires-clause-ask
 run_plans-store-requires-clause-ask g c =
