@@ -1,5 +1,6 @@
 """What the scripts share that try the rows in a file: files that sqlite makes and reads, and the program over them."""
 import os
+import select
 import shutil
 import signal
 import socket
@@ -169,6 +170,12 @@ class Server:
         """Waits until connections are taken."""
         expect(self.process.stdout.readline(), b"ready\n")
         return self
+
+    def ready_within(self, seconds):
+        """The same, but for no longer than this. It is the first thing that is read of it."""
+        if not select.select([self.process.stdout], [], [], seconds)[0]:
+            raise Wrong(f"not ready within {seconds} seconds")
+        return self.ready()
 
     def begun(self):
         """Waits until connections are taken. What is said before that: how the cache began."""

@@ -79,9 +79,9 @@ pub record IsBoundBook (opening : Tables) (shards : ℕ) (book : Book) (seen : S
 abbrev pub IsQuitSeen : Option Sid → Seen → Type 0
 IsQuitSeen quit seen = ForSome quit (λ who. IsAmong who.number (ended_of seen.events))
 
--- Which session has quit after the end of one: that one, where it was open, or was begun for writing and hasn't committed.
+-- Which session has quit after the end of one: that one, where it was open, or was begun for writing and can't have committed.
 abbrev pub quit_after : Option Sid → Sid → Bool → Bool → Bool → Option Sid
-quit_after before who was writes did_commit = if was || (writes && not did_commit) then Some who else before
+quit_after before who was writes may_have = if was || (writes && not may_have) then Some who else before
 
 -- The session is the present one, and has committed.
 abbrev pub HasCommitted : Book → Sid → Type 0

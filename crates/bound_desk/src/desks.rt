@@ -14,7 +14,7 @@ ghost use Rattle.bound_desk.specs.Shown.{ShowsReply};
 use crate::bound_books::BoundBook;
 use crate::records::Record;
 use crate::requests::is_raise;
-use crate::sweeps::BoundSweep;
+use crate::sweeps::{BoundSweep, drop_lapsed};
 use crate::turns::{is_timed, turn_to_due};
 use bound_hub::{BoundHub, BoundName};
 use desk_book::Made;
@@ -201,6 +201,7 @@ impl<'a, K: Keeper, H: BoundName, C: Clock, G: Gate, R: Wait> Desk
                         .notes
                         .reply_to_get(word, &mut *shard, who, key, floor, now);
                     turn_to_due(&mut self.sweeper, place, &reply, shard.next_due(), now);
+                    self.hub.note_due(place, shard.next_look());
                     reply
                 }
             };
@@ -220,7 +221,7 @@ impl<'a, K: Keeper, H: BoundName, C: Clock, G: Gate, R: Wait> Desk
                         0
                     };
                     let reply = self.notes.on_shard(word, &mut *shard, who, request, now);
-                    self.hub.note_due(place, shard.next_due());
+                    self.hub.note_due(place, shard.next_look());
                     reply
                 }
                 None if matches!(&request, Wanted::Nothing) => {
@@ -245,7 +246,7 @@ impl<'a, K: Keeper, H: BoundName, C: Clock, G: Gate, R: Wait> Desk
                     let place = shard.no();
                     self.gate.at(self.worker, Point::Inside { shard: place });
                     let answer = self.notes.drop_value(word, &mut *shard, who, grant);
-                    self.hub.note_due(place, shard.next_due());
+                    self.hub.note_due(place, shard.next_look());
                     dropped(raises, answer)
                 } else {
                     grant.let_go();
@@ -259,8 +260,9 @@ impl<'a, K: Keeper, H: BoundName, C: Clock, G: Gate, R: Wait> Desk
         reply
     }
 
-    /// One step of the worker's own sweeper, under one lock. A shard on which no quarantine can be due yet
-    /// is passed without its lock.
+    /// One step of the worker's own sweeper, under one lock. A shard on which no quarantine can be due yet,
+    /// and no lease to read can have lapsed, is passed without its lock. Leases that have lapsed are dropped
+    /// with the scan.
     fn tend(&mut self) {
         let word = self.hub.word();
         let reply = match self.sweeper.wants() {
@@ -271,8 +273,10 @@ impl<'a, K: Keeper, H: BoundName, C: Clock, G: Gate, R: Wait> Desk
                 } else {
                     let mut bound = self.hub.lock_at(self.rt, shard);
                     self.gate.at(self.worker, Point::Inside { shard });
-                    let found = self.sweep.scan(word, &mut *bound, self.clock.now());
-                    self.hub.note_due(shard, bound.next_due());
+                    let now = self.clock.now();
+                    let found = self.sweep.scan(word, &mut *bound, now);
+                    drop_lapsed(word, &mut *bound, now);
+                    self.hub.note_due(shard, bound.next_look());
                     match found {
                         Some(due) => SweepReply::Found { shard, due },
                         None => SweepReply::NoneFound { shard },

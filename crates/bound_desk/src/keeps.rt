@@ -31,8 +31,9 @@ use sql_keeper::{Closed, Keeper};
 impl<H: BoundName> BoundBook<H> {
     /// Ends a session at the store that is lent, and tells whether it was open. Where it was, its End is
     /// the last event that the desk has seen then. Else there is none. The end is noted. The store tells
-    /// in the same moment whether the session has committed: where the desk has seen then that it was
-    /// ended without a commit, its grants may be released with their values kept. It takes no memory.
+    /// in the same moment whether the session may have committed: where the desk has seen then that it was
+    /// ended without a commit, its grants may be released with their values kept. From then on the store
+    /// takes no memory for a session that is the desk's own. It takes no memory.
     pub fn end<K: Keeper>(
         &mut self,
         word: &LogWord,
@@ -49,8 +50,9 @@ impl<H: BoundName> BoundBook<H> {
         let closed = store.end(word, &mut self.pass, who);
         self.pass.sound();
         let writes = self.book.is_writing(who);
-        let did_commit = has_committed(word, store, &mut self.pass, who);
-        self.quit = quit_after(self.quit, who, closed.was(), writes, did_commit);
+        let may_have = may_have_committed(word, store, &mut self.pass, who);
+        self.quit = quit_after(self.quit, who, closed.was(), writes, may_have);
+        forget_own(store, who, writes);
         self.book.note_end(who);
         closed
     }
@@ -127,9 +129,9 @@ impl<H: BoundName> BoundBook<H> {
     }
 }
 
-/// Whether a session has committed, by the store that is lent. Where it hasn't, no commit of its is among
-/// those that the pass has seen, which stays.
-fn has_committed<K: Keeper, H: BoundName>(
+/// Whether a session may have committed, by the store that is lent. Where it hasn't, no commit of its is
+/// among those that the pass has seen, which stays.
+fn may_have_committed<K: Keeper, H: BoundName>(
     word: &LogWord,
     store: &mut BoundStore<K, H>,
     pass: &mut Pass,
@@ -141,21 +143,24 @@ fn has_committed<K: Keeper, H: BoundName>(
     ensures shows { IsFalse result → IsLogged (commits_of pass.old.seen.events) who.number → ⊥ }
 {
     let mut other = pass.note(word).into_pass();
-    store.has_committed(word, &mut other, who)
+    store.may_have_committed(word, &mut other, who)
+}
+
+/// The store that is lent takes no memory any more for the end of a session, if it is the desk's own.
+fn forget_own<K: Keeper, H: BoundName>(store: &mut BoundStore<K, H>, who: Sid, own: bool)
+    ensures { store.new ≡ store.old }
+{
+    if own {
+        store.forget(who);
+    }
 }
 
 /// Which session has quit after the end of one: that one, where it was open, or was begun for writing and
-/// hasn't committed, and else the same as before.
-fn quit_after(
-    before: Option<Sid>,
-    who: Sid,
-    was: bool,
-    writes: bool,
-    did_commit: bool,
-) -> Option<Sid>
-    ensures { result ≡ quit_after before who was writes did_commit }
+/// can't have committed, and else the same as before.
+fn quit_after(before: Option<Sid>, who: Sid, was: bool, writes: bool, may_have: bool) -> Option<Sid>
+    ensures { result ≡ quit_after before who was writes may_have }
 {
-    if was || (writes && !did_commit) {
+    if was || (writes && !may_have) {
         Some(who)
     } else {
         before

@@ -15,6 +15,21 @@ use rows_model::{QKey, Sid};
 use sql_keeper::{Closed, Keeper};
 use std::marker::{Model, PhantomData};
 
+/// How many leases to read one step of a sweep drops at most.
+const LAPSES: usize = 64;
+
+/// Drops leases to read on the shard that is lent that have lapsed, the earliest first, and no more than one
+/// step of a sweep may.
+pub fn drop_lapsed<H: BoundName>(word: &LogWord, shard: &mut BoundShard<H>, now: u64)
+    requires { word.now ≡ H.word }
+{
+    for _ in 0..LAPSES {
+        if shard.lapse(word, now).is_none() {
+            return;
+        }
+    }
+}
+
 /// A quarantine that was past its deadline, the number of the shard on which it was found, and whether its
 /// session was ended since.
 #[derive(Clone, Copy)]

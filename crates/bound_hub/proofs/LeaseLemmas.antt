@@ -10,6 +10,7 @@ use Rattle.key_shard.specs.declared.steps.Step.{Step}
 use Rattle.key_shard.specs.declared.steps.Step.TheVariants as step
 use Rattle.key_shard.specs.Past.{Terms, standing, recorded, entry, next_token}
 use Rattle.key_shard.specs.Answers.{IsLegalPast}
+use Rattle.key_shard.proofs.VoidLemmas.{void-was}
 use Rattle.sql_keeper.specs.Fresh.{quarantines}
 use Rattle.key_freshness.specs.Marks.{Granted, Has, marks_in, marks_of}
 use Rattle.key_freshness.specs.Known.{Known, IsRuled}
@@ -46,6 +47,7 @@ recorded_back key (step.Granted on sid mode shift now token deadline) past lease
     by_test (λ b. cond b None (recorded key past) ≡ Some lease → (recorded key past ≡ Some lease) ⊎ ⊥) (same_key key on) (λ _ none. absurd cc) (λ _ old. inl old) e
 recorded_back key (step.Stored on token now value stamp evicted) past lease e =
     by_test (λ b. cond b None (recorded key past) ≡ Some lease → (recorded key past ≡ Some lease) ⊎ ⊥) (same_key key on) (λ _ none. absurd cc) (λ _ old. inl old) e
+recorded_back key (step.Void on token now) past lease e = inl (void-was key on token now past lease e)
 recorded_back key other past lease e = inl e
 
 -- a quarantine of the key ends its lease

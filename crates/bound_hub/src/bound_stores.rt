@@ -114,13 +114,23 @@ impl<K: Keeper, H: BoundName> BoundStore<K, H> {
         closed
     }
 
-    /// Whether the session has committed. Where it hasn't, no commit of its is among those that are seen.
-    pub(crate) fn has_commit(&self, sid: Sid) -> bool
-        ensures was { result ≡ has_committed sid self.now.store.ledger.sessions }
+    /// Whether the session may have committed, as the store says it. Where it hasn't, no commit of its is
+    /// among those that are seen.
+    pub(crate) fn may_have_commit(&self, sid: Sid) -> bool
+        ensures has_not { IsFalse result
+            → IsFalse (has_committed sid self.now.store.ledger.sessions) }
         ensures shows { IsFalse result
             → IsLogged (commits_of self.now.seen.events) sid.number → ⊥ }
     {
-        self.store.has_committed(sid)
+        self.store.may_have_committed(sid)
+    }
+
+    /// Forgets that a session was ended before it committed, as the store does. Contracts see it all the
+    /// same.
+    pub fn forget(&mut self, sid: Sid)
+        ensures { self.new ≡ self.old }
+    {
+        self.store.forget(sid);
     }
 
     /// A note of what its pass has seen.

@@ -60,16 +60,17 @@ impl<K: Keeper, H: BoundName> BoundHub<K, H> {
         self.lock_store(rt).end(&self.word, pass, sid)
     }
 
-    /// Whether a session has committed. Where it hasn't, no commit of its is among those that the caller
-    /// has seen then.
-    pub fn has_committed<R: Wait>(&self, rt: &R, pass: &mut Pass, sid: Sid) -> bool
+    /// Whether a session may have committed, as the store says it. Where it hasn't, no commit of its is
+    /// among those that the caller has seen then.
+    pub fn may_have_committed<R: Wait>(&self, rt: &R, pass: &mut Pass, sid: Sid) -> bool
         requires { pass.old.word ≡ H.word }
         ensures word { pass.new.word ≡ H.word }
         ensures seen { IsBeginning pass.old.seen pass.new.seen }
         ensures shows { IsFalse result
             → IsLogged (commits_of pass.new.seen.events) sid.number → ⊥ }
     {
-        self.lock_store(rt).has_committed(&self.word, pass, sid)
+        self.lock_store(rt)
+            .may_have_committed(&self.word, pass, sid)
     }
 
     /// Asks the store for a key. The answer is right by the commits that the caller has seen then, unless

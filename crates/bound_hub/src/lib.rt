@@ -10,6 +10,7 @@ pub use shorts::short_of;
 
 pub mod bound_asks;
 pub mod bound_commits;
+pub mod bound_lapses;
 pub mod bound_quarantines;
 pub mod bound_raises;
 pub mod bound_releases;

@@ -69,12 +69,14 @@ impl<K: Keeper, H: BoundName> BoundStore<K, H> {
         closed
     }
 
-    /// Whether a session has committed. Where it hasn't, no commit of its is among those that the caller
-    /// has seen then. The store stays. It takes no memory.
-    pub fn has_committed(&mut self, word: &LogWord, pass: &mut Pass, sid: Sid) -> bool
+    /// Whether a session may have committed, as the store says it: it hasn't where it is open, or was ended
+    /// and isn't forgotten. Where it hasn't, no commit of its is among those that the caller has seen then.
+    /// The store stays. It takes no memory.
+    pub fn may_have_committed(&mut self, word: &LogWord, pass: &mut Pass, sid: Sid) -> bool
         requires word { word.now ≡ H.word }
         requires pass { pass.old.word ≡ H.word }
-        ensures was { result ≡ has_committed sid self.old.store.ledger.sessions }
+        ensures has_not { IsFalse result
+            → IsFalse (has_committed sid self.old.store.ledger.sessions) }
         ensures store { self.new.store ≡ self.old.store }
         ensures word { pass.new.word ≡ H.word }
         ensures seen { IsBeginning pass.old.seen pass.new.seen }
@@ -84,7 +86,7 @@ impl<K: Keeper, H: BoundName> BoundStore<K, H> {
     {
         self.join(word, pass.note(word));
         *pass = self.note(word).into_pass();
-        self.has_commit(sid)
+        self.may_have_commit(sid)
     }
 
     /// Asks for a key, as the store does. The answer is right by the commits that the caller has

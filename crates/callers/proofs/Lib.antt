@@ -1,4 +1,5 @@
 pub mod FloorLemmas
+pub mod ShardLemmas
 pub mod StoreLemmas
 pub mod RunLemmas
 pub mod PartLemmas

@@ -230,8 +230,8 @@ same_of_usage (Err fault.Memory) ended courses h is = (place.Fresh, (h.1 place.F
 
 -- a server that ended Done
 pub server_done : (ended : Status) (spec : ServeSpec) (course : Course) → ServeEnded ended spec course → ended ≡ status.Done
-    → IsDoneServer spec course.before.taken course.after.taken course.files_before course.files_after course.after.rows course.left course.door_after.ended
-    course.ends course.written
+    → IsDoneServer spec course.before.taken course.after.taken course.files_before course.files_after course.before.keeps_failed course.after.keeps_failed
+    course.after.rows course.left course.door_after.ended course.ends course.written
 server_done ended spec course h is =
     let served = subst (λ (e : Status). ServeEnded e spec course) is h in
     record {
@@ -242,6 +242,7 @@ server_done ended spec course h is =
       opening = served.opening;
       opening_is = served.kept.opening_is;
       failed = served.failed;
+      since = served.kept.since;
       begun = served.begun;
       begins_as = served.begins_as;
       prints = subst (λ (bytes : List ℕ). Prints course.before.taken course.after.taken bytes course.written) served.attended.is_text served.attended.prints;

@@ -52,7 +52,7 @@ right_cache spec course text served saved some = record {
         is_left = there.1;
         given_up = is.given_up;
         legal = is.legal;
-        rows_are = is.rows_are;
+        rows_are = is.rows_are some;
         right = is.right some;
       };
 }

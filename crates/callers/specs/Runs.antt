@@ -16,6 +16,7 @@ use Rattle.cache_file.specs.Texts.{IsCacheText}
 use Rattle.sql_keeper.specs.declared.keepers.Place.{Place}
 use Rattle.sql_keeper.specs.declared.keepers.Place.TheVariants as places
 use Rattle.sql_keeper.specs.declared.stores.Commit.{Commit}
+use Rattle.sql_keeper.specs.Faults.{HaveFailed}
 use Rattle.sql_keeper.specs.Fresh.{Fresh, Covered}
 use Rattle.sql_keeper.specs.Log.{rows_after, state}
 use Rattle.session_client.specs.declared.plans.Shape.{Shape}
@@ -32,9 +33,9 @@ use Rattle.run_words.specs.Words.{most_served}
 use Rattle.door_workers.specs.Attending.{HaveEnds, IsEnough}
 use Rattle.top_run.specs.declared.serves.Begun.{Begun}
 use Rattle.top_run.specs.Begins.{Beginning, BeginsAs, Files, FilesSeen}
-use Rattle.top_run.specs.Saves.{HasText}
+use Rattle.top_run.specs.Saves.{HasText, right_in}
 use Rattle.top_run.specs.Serves.{serve_shape, serve_rolls, serve_text, line_count}
-use Rattle.top_run.specs.Warms.{HaveTakenOver, HitsHaveValues, rows_in}
+use Rattle.top_run.specs.Warms.{HaveTakenOver, HitsHaveValues}
 use Rattle.top_run.specs.Works.{IsLeft, IsSummarized, hub_terms, work_shape}
 
 -- A run at a fresh place, over a keeper that tells its rows for good, which began with these rows and has those at its end: it
@@ -118,9 +119,9 @@ known_of files_before files_after opening rows failed = record {
 -- A server ended Done: so many connections were served as were asked for, or the door said that no more come, as it did where no
 -- number was asked for. There is an end for each of a number of connections. The sink took all that a server writes, with the number
 -- that were served; how the cache began is in it where the words name a file for that. Of each shard there are the last steps of a
--- legal history.
+-- legal history. So many calls of the keeper failed as its count of faults tells.
 pub record IsDoneServer (spec : ServeSpec) (taken_old taken_new : Option (List ℕ)) (files_before files_after : FilesSeen)
-    (rows : Option Tables) (left : Left) (ended : Bool) (ends : List LineEnd) (written : ℕ) : Type 0 where
+    (faults_old faults_new : ℕ) (rows : Option Tables) (left : Left) (ended : Bool) (ends : List LineEnd) (written : ℕ) : Type 0 where
   pub lines : ℕ
   pub few : IfSome (most_served spec.conns) (λ most. lines ≤ most)
   pub have_ends : HaveEnds (most_served spec.conns) lines ends
@@ -128,6 +129,7 @@ pub record IsDoneServer (spec : ServeSpec) (taken_old taken_new : Option (List �
   pub opening : Tables
   pub opening_is : left.opening ≡ Some opening
   pub failed : ℕ
+  pub since : HaveFailed faults_old failed faults_new
   pub begun : Begun
   pub begins_as : BeginsAs spec.warm spec.shards (known_of files_before files_after opening rows failed) begun
   pub prints : Prints taken_old taken_new (serve_text begun (line_count lines)) written
@@ -135,13 +137,14 @@ pub record IsDoneServer (spec : ServeSpec) (taken_old taken_new : Option (List �
   pub legal : (place : ℕ) (history : List Step) → slice_get left.histories place ≡ Some history → IsLeft (serve_shape spec) serve_rolls place history
 
 -- A dump is right for the shard of this number, of which a server leaves the last steps of a legal history beside this log: it has the
--- rows that this history says are still right, and each value is its key's answer on the rows after the log.
+-- rows of exactly those entries of this history that may stand there and that are right on the rows after the log. So each value is its
+-- key's answer on these.
 pub record IsRightDump (spec : ServeSpec) (opening : Tables) (log : List Commit) (histories : List (List Step)) (place : ℕ) (dump : Dump) : Type 0 where
   pub steps : List Step
   pub is_left : slice_get histories place ≡ Some steps
   pub given_up : List Step
   pub legal : Legal (hub_terms (serve_shape spec) serve_rolls place) (given_up ++ steps)
-  pub rows_are : dump.rows ≡ rows_in log (given_up ++ steps)
+  pub rows_are : dump.rows ≡ right_in (rows_after opening log) (given_up ++ steps)
   pub right : All (λ row. row.value ≡ answer row.key (rows_after opening log)) dump.rows
 
 -- The text is that of a cache with as many shards as the words say, of which each dump is right for what a server leaves.

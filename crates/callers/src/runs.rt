@@ -293,7 +293,8 @@ pub fn run_telling_load<
 /// all that there were, as it did where the words say `forever`: the sink took `ready` and how many they were.
 /// Before `ready` it took how the cache began, where the words name a file for that, and it is true: as many rows
 /// were taken over as the file has, or why there were none. How each of a number of connections ended is told.
-/// Of each shard there are the last steps of a legal history.
+/// Of each shard there are the last steps of a legal history. How many calls of the keeper failed is what its
+/// count of faults tells.
 pub fn run_server<
     S: Source,
     W: Sink,
@@ -318,7 +319,8 @@ pub fn run_server<
         AreWords (map (λ word. word.items) words.now) (Words.Serve place spec) →
         result.status ≡ Status.Done → IsDoneServer spec (W.taken sink.old) (W.taken sink.new)
         (files_seen F.CacheFile file.old) (files_seen F.CacheFile file.new)
-        (K.rows result.keeper) (left_at result) door.new.ended result.ends.items result.written }
+        (K.faults keeper) (K.faults result.keeper) (K.rows result.keeper) (left_at result)
+        door.new.ended result.ends.items result.written }
 {
     run(
         rt, alloc, words, source, sink, keeper, file, door, clock, gate,
@@ -327,8 +329,8 @@ pub fn run_server<
 
 /// A server over a keeper that tells its rows for good, whose words name a file for its cache, leaves there what
 /// the next one may take over. Where it ends Done, and the file tells what it has, that is the text of a cache
-/// with a dump of each shard. Each value in these is its key's answer on the rows after the log. No other file
-/// is touched.
+/// with a dump of each shard. That has exactly the entries whose value is their key's answer on the rows after
+/// the log. No other file is touched.
 pub fn run_saving_server<
     S: Source,
     W: Sink,

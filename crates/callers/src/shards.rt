@@ -27,8 +27,8 @@ pub fn hits_meet_their_floors()
     ensures { HitsMeetTheirFloors }
 {}
 
-/// A value that comes too late changes nothing that a shard holds: each entry, their order, and the
-/// leases of each key are as before.
+/// A value that comes too late changes nothing that a shard shows: each entry, their order, and the
+/// leases of each key, as they are seen from then on, are as before.
 pub fn set_too_late(
     shard: &mut Shard,
     key: QKey,
@@ -38,7 +38,7 @@ pub fn set_too_late(
     now: u64,
 ) -> Result<SetAnswer, ShardFault>
     requires { is_current token now (recorded key (past_of shard.old)) ≡ false }
-    ensures same { ShowsTheSame (past_of shard.old) (past_of shard.new) }
+    ensures same { ShowsTheSame now (past_of shard.old) (past_of shard.new) }
     ensures void { IfOk result IsVoid }
 {
     voids_are_inert();

@@ -12,6 +12,7 @@ use Rattle.lease_table.specs.declared.records.Mode.TheVariants.{Invalidate, Refr
 use Rattle.lease_table.specs.declared.records.Quar.{Quar}
 use Rattle.lease_table.specs.declared.records.ReadLease.{ReadLease}
 use Rattle.lease_table.specs.Leases.{has_token, raised, renewed}
+use Rattle.key_shard.proofs.VoidLemmas.{void-none}
 use Rattle.key_shard.proofs.RaiseLemmas.{lifted, raised-here, renewed-same, every-mapped}
 use Rattle.key_shard.specs.declared.steps.Ended.{Ended as Ends}
 use Rattle.key_shard.specs.declared.steps.Ended.TheVariants as ended
@@ -287,7 +288,8 @@ apart_step events steps who (step.Released on sid token how) key good apart =
 apart_step events steps who (step.Hit on sid floor value stamp) key good apart = apart
 apart_step events steps who (step.Again on sid floor now stands) key good apart = apart
 apart_step events steps who (step.Own on sid) key good apart = apart
-apart_step events steps who (step.Void on token now) key good apart = apart
+apart_step events steps who (step.Void on token now) key good apart =
+    ⊎_elim (λ none. inl none) (λ none. inr (void-none key on token now steps none)) apart
 apart_step events steps who (step.Held on sid mode) key good apart = apart
 apart_step events steps who (step.Refused on sid mode holder held) key good apart = apart
 apart_step events steps who (step.Gone on sid token) key good apart = apart

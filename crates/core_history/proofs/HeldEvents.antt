@@ -16,6 +16,7 @@ use Rattle.key_shard.specs.declared.steps.Ended.TheVariants as ended
 use Rattle.key_shard.specs.declared.steps.Step.{Step}
 use Rattle.key_shard.specs.declared.steps.Step.TheVariants as step
 use Rattle.key_shard.specs.Past.{standing, recorded, entry}
+use Rattle.key_shard.proofs.VoidLemmas.{void-was}
 use Rattle.sql_keeper.specs.declared.stores.Answer.{Answer}
 use Rattle.sql_keeper.specs.declared.stores.Commit.{Commit}
 use Rattle.key_freshness.specs.Marks.{Mark, Granted, Ended, Leased, Wrote, Has, key_of, marks_in, marks_of, writes_by}
@@ -148,7 +149,7 @@ recorded_cases key lease past (step.Again on sid floor now stands) e =
 recorded_cases key lease past (step.Own on sid) e =
     inl (record { was = e; gives_none = λ t. refl; grants_none = λ who t h. none_in (Granted who t) (same_key key on) h })
 recorded_cases key lease past (step.Void on token now) e =
-    inl (record { was = e; gives_none = λ t. refl; grants_none = λ who t h. none_in (Granted who t) (same_key key on) h })
+    inl (record { was = void-was key on token now past lease e; gives_none = λ t. refl; grants_none = λ who t h. none_in (Granted who t) (same_key key on) h })
 recorded_cases key lease past (step.Held on sid mode) e =
     inl (record { was = e; gives_none = λ t. refl; grants_none = λ who t h. none_in (Granted who t) (same_key key on) h })
 recorded_cases key lease past (step.Refused on sid mode holder held) e =

@@ -17,7 +17,7 @@ use expiry_sweeper::Sweeper;
 use key_shard::{Shard, Step};
 use rows_model::{Memory, Rows, Sid};
 use session_client::{Plan, Session, Shape, Turn};
-use sql_keeper::{Commit, KeepFault, Keeper, NoStore, Place, Store};
+use sql_keeper::{Commit, CommitLog, KeepFault, Keeper, NoStore, Place, Store};
 use std::alloc::Global;
 use std::marker::Model;
 
@@ -214,9 +214,10 @@ impl<K: Keeper> Core<K> {
         self.clock
     }
 
-    /// The transactions that were committed, the earliest first.
+    /// The transactions that were committed, the earliest first. A core keeps them all in memory.
     pub fn log(&self) -> &[Commit]
-        ensures { result.now ≡ self.now.store.ledger.log }
+        ensures items { (origin : Origin) (moves : List Move) → HasKept self.now origin moves →
+            result.now ≡ self.now.store.ledger.log }
     {
         self.store.log()
     }
@@ -245,7 +246,7 @@ impl<K: Keeper> Core<K> {
 
     /// Takes the core apart into its keeper, the rows that the keeper started with, the log and the
     /// shards. It takes no memory.
-    pub fn into_parts(self) -> (K, Rows, Vec<Commit>, Vec<Shard>)
+    pub fn into_parts(self) -> (K, Rows, CommitLog, Vec<Shard>)
         ensures started { K.is_started result.0 }
         ensures rows { K.rows result.0 ≡ self.store.known_rows }
         ensures faults { K.faults result.0 ≡ self.store.faults }

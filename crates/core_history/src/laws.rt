@@ -19,8 +19,8 @@ pub fn runs_are_fresh()
     ensures { RunsAreFresh }
 {}
 
-/// A set that came too late changes nothing: each entry, their order, the quarantines, the leases and
-/// the next token are as they were before it.
+/// A set that came too late changes nothing: each entry, their order, the quarantines and the next token
+/// are as they were before it, and from its own time on the leases to read are seen as before.
 pub fn voids_are_inert()
     ensures { VoidsAreInert }
 {}

@@ -16,6 +16,7 @@ use Rattle.lease_table.specs.declared.records.Mode.{Mode}
 use Rattle.lease_table.specs.declared.records.Mode.TheVariants.{Invalidate, Refresh, Delta}
 use Rattle.lease_table.specs.declared.records.Quar.{Quar}
 use Rattle.lease_table.specs.declared.records.ReadLease.{ReadLease}
+use Rattle.lease_table.specs.Lapses.{is_lapsed, unlapsed}
 use Rattle.lease_table.specs.Leases.{way_of, is_of, has_token, own_in, others_in, is_raisable, raise_in, raised, renewed, StandBeside}
 use Rattle.lease_table.proofs.ListLemmas.{find-none}
 use Rattle.key_shard.specs.declared.steps.Ended.{Ended}
@@ -148,6 +149,18 @@ stored-well terms past on token now value stamp evicted h key =
     of-well terms (s ∷ past) key
     (cond_both (same_key key on) None (recorded key past) (λ lease. Well (next_token terms (s ∷ past)) (standing key past) lease)
     (λ _. well-free (next_token terms (s ∷ past)) (standing key past) (recorded key past) old)
+    (λ _. old))
+
+-- a set that is void leaves what was recorded, or nothing
+void-well : (terms : Terms) (past : List Step) (on : QKey) (token now : ℕ) → AllWell terms past → AllWell terms (step.Void on token now ∷ past)
+void-well terms past on token now h key =
+    let s = step.Void on token now in
+    let old = old-well terms past s key h in
+    of-well terms (s ∷ past) key
+    (cond_both (same_key key on) (unlapsed token now (recorded key past)) (recorded key past) (λ lease. Well (next_token terms (s ∷ past)) (standing key past) lease)
+    (λ _. cond_both (is_lapsed token now (recorded key past)) None (recorded key past) (λ lease. Well (next_token terms (s ∷ past)) (standing key past) lease)
+    (λ _. well-free (next_token terms (s ∷ past)) (standing key past) (recorded key past) old)
+    (λ _. old))
     (λ _. old))
 
 released-well : (terms : Terms) (past : List Step) (on : QKey) (who : Sid) (token : ℕ) (how : Ended)
@@ -307,7 +320,7 @@ stands_well_step terms past s a h = subst P (sym a.answer) (by a.request)
     by (Set key token value stamp now) =
         set_cases P terms past key token value stamp now
         (λ _. stored-well terms past key token now value stamp (evicts terms key past) h)
-        (λ _ k. of-well terms (step.Void key token now ∷ past) k (old-well terms past (step.Void key token now) k h))
+        (λ _. void-well terms past key token now h)
     by (Quarantine key who mode shift now) =
         verdict_cases P terms past key who mode shift now
         (λ none join. granted-well terms past key who mode shift now (deadline_at terms now) none join h)

@@ -3,6 +3,7 @@ pub mod DueLemmas
 pub mod EndLemmas
 pub mod GrantLemmas
 pub mod KeptLemmas
+pub mod LapseLemmas
 pub mod LegalLemmas
 pub mod LookLemmas
 pub mod OneStepLemmas
@@ -15,6 +16,7 @@ pub mod QuarantineLemmas
 pub mod SightLemmas
 pub mod SweepLemmas
 pub mod TiesLemmas
+pub mod VoidLemmas
 pub mod TokenLemmas
 pub mod PermitLemmas
 pub mod RaiseLemmas

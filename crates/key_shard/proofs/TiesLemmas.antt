@@ -106,17 +106,7 @@ Ties-quiet terms past list table next (Own key sid) quiet a h =
       below = h.below;
       legal = (a, h.legal);
     }
-Ties-quiet terms past list table next (Void key token now) quiet a h =
-    record {
-      entries = h.entries;
-      in_order = h.in_order;
-      sound = h.sound;
-      quars = h.quars;
-      reads = h.reads;
-      counted = omega (arith, h.counted);
-      below = h.below;
-      legal = (a, h.legal);
-    }
+Ties-quiet terms past list table next (Void key token now) quiet a h = absurd quiet
 Ties-quiet terms past list table next (Held key sid mode) quiet a h =
     record {
       entries = h.entries;

@@ -15,7 +15,7 @@ use Rattle.entry_table.specs.Entries.{Item, Table, IsSound, lookup, keys}
 use Rattle.key_shard.specs.Permit.{Permit}
 use Rattle.key_shard.specs.declared.steps.Ended.{Ended}
 use Rattle.key_shard.specs.declared.steps.Step.{Step}
-use Rattle.key_shard.specs.declared.steps.Step.TheVariants.{Hit, Lease as StepLease, Again, Own, Void, Held, Refused, Gone, Shared}
+use Rattle.key_shard.specs.declared.steps.Step.TheVariants.{Hit, Lease as StepLease, Again, Own, Held, Refused, Gone, Shared}
 use Rattle.key_shard.specs.declared.replies.How.{How}
 use Rattle.key_shard.specs.declared.replies.How.TheVariants as hows
 use Rattle.key_shard.specs.declared.bodies.Body.{Body}
@@ -98,7 +98,6 @@ pub record IsKept (body : Body) : Type 0 where
 -- a step that changes no entry, order or lease
 abbrev pub IsQuiet : Step → Type 0
 IsQuiet (Own key sid) = Unit {0}
-IsQuiet (Void key token now) = Unit {0}
 IsQuiet (Held key sid mode) = Unit {0}
 IsQuiet (Refused key sid mode holder held) = Unit {0}
 IsQuiet (Gone key sid token) = Unit {0}

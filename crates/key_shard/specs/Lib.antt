@@ -4,6 +4,7 @@ pub use Rattle.rows_model.specs.Placement
 pub use Rattle.rows_model.specs.Shift
 pub use Rattle.case_tables.specs.Compatibility
 pub use Rattle.lease_table.specs.Leases
+pub use Rattle.lease_table.specs.Lapses
 pub mod Permit
 pub mod Past
 pub mod Dues

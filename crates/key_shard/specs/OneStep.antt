@@ -4,6 +4,7 @@ use Rattle.rows_model.specs.declared.keys.QKey.{QKey}
 use Rattle.rows_model.specs.Key.{same_key}
 use Rattle.lease_table.specs.declared.records.Quar.{Quar}
 use Rattle.lease_table.specs.declared.records.ReadLease.{ReadLease}
+use Rattle.lease_table.specs.Lapses.{unlapsed}
 use Rattle.lease_table.specs.Leases.{has_token, raised, renewed}
 use Rattle.key_shard.specs.declared.steps.Ended.{Ended}
 use Rattle.key_shard.specs.declared.steps.Ended.TheVariants.{Keep, Drop, Put, Shift}
@@ -41,12 +42,14 @@ standing_after (Renewed on sid token now deadline) key quars =
     if same_key key on then map (renewed token deadline) quars else quars
 standing_after step key quars = quars
 
--- The lease to read that is recorded on a key after a step: one that is given on it, and none once it is quarantined or a value stored.
+-- The lease to read that is recorded on a key after a step: one that is given on it, and none once it is quarantined, a value is stored, or a set
+-- under its token is void since its deadline had come.
 abbrev pub recorded_after : Step → QKey → Option ReadLease → Option ReadLease
 recorded_after (Lease on sid floor now token deadline) key reader =
     if same_key key on then Some (record { sid = sid; token = token; deadline = deadline }) else reader
 recorded_after (Granted on sid mode shift now token deadline) key reader = if same_key key on then None else reader
 recorded_after (Stored on token now value stamp evicted) key reader = if same_key key on then None else reader
+recorded_after (Void on token now) key reader = if same_key key on then unlapsed token now reader else reader
 recorded_after step key reader = reader
 
 -- The entry of a key after a step: a value that is stored or put, what the end of a quarantine leaves, and none after a miss or where it made room.

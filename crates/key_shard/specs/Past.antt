@@ -8,12 +8,13 @@ use Rattle.rows_model.specs.Shift.{shifted}
 use Rattle.case_tables.specs.Compatibility.{Holding}
 use Rattle.lease_table.specs.declared.records.Quar.{Quar}
 use Rattle.lease_table.specs.declared.records.ReadLease.{ReadLease}
+use Rattle.lease_table.specs.Lapses.{unlapsed}
 use Rattle.lease_table.specs.Leases.{has_token, own_in, others_in, holder_in, holding_of, raised, renewed}
 use Rattle.key_shard.specs.Permit.{Permit}
 use Rattle.key_shard.specs.declared.steps.Ended.{Ended}
 use Rattle.key_shard.specs.declared.steps.Ended.TheVariants.{Keep, Drop, Put, Shift}
 use Rattle.key_shard.specs.declared.steps.Step.{Step}
-use Rattle.key_shard.specs.declared.steps.Step.TheVariants.{Hit, Lease, Again, Stored, Granted, Released, Raised, Renewed}
+use Rattle.key_shard.specs.declared.steps.Step.TheVariants.{Hit, Lease, Again, Stored, Void, Granted, Released, Raised, Renewed}
 
 -- What a shard is made with: its number of so many, how many entries it has room for, how long a lease lives, its first token, and
 -- whether it gives up each step as it comes.
@@ -40,7 +41,8 @@ standing key (Renewed on sid token now deadline ∷ past) =
     if same_key key on then map (renewed token deadline) (standing key past) else standing key past
 standing key (step ∷ past) = standing key past
 
--- The recorded I lease of a key: the last one given on it, unless it was quarantined or a value was stored on it since.
+-- The recorded I lease of a key: the last one given on it, unless it was quarantined or a value was stored on it since. A set under the lease's own
+-- token that came when its deadline had come was void, and dropped it. The history says so whatever times came later.
 abbrev pub recorded : QKey → List Step → Option ReadLease
 recorded key [] = None
 recorded key (Lease on sid floor now token deadline ∷ past) =
@@ -49,6 +51,8 @@ recorded key (Granted on sid mode shift now token deadline ∷ past) =
     if same_key key on then None else recorded key past
 recorded key (Stored on token now value stamp evicted ∷ past) =
     if same_key key on then None else recorded key past
+recorded key (Void on token now ∷ past) =
+    if same_key key on then unlapsed token now (recorded key past) else recorded key past
 recorded key (step ∷ past) = recorded key past
 
 -- The session's own quarantine of a key.

@@ -58,6 +58,16 @@ impl History {
         History { alloc, steps }
     }
 
+    /// Whether each step is given up as it comes.
+    pub fn rolls(&self) -> bool
+        ensures { result ≡ self.now.rolls }
+    {
+        match &self.steps {
+            Steps::Whole(_) => false,
+            Steps::GivenUp(_) => true,
+        }
+    }
+
     /// What its memory is from.
     pub fn allocator(&self) -> Global {
         self.alloc

@@ -10,6 +10,7 @@ mod bodies;
 mod gets;
 pub mod grants;
 mod histories;
+mod lapses;
 pub mod laws;
 mod lookups;
 mod outs;

@@ -21,7 +21,7 @@ pub enum Got {
 pub enum SetAnswer {
     /// The value stands. The key that had to make room is named.
     Stored { evicted: Option<QKey> },
-    /// The token did not stand, and nothing changed.
+    /// The token did not stand, and no value changed.
     Void,
 }
 

@@ -58,7 +58,7 @@ impl Body {
         if self.leases.can_take_i(&key, token, now) {
             Ok(self.store(key, token, value, stamp, now)?)
         } else {
-            self.note(Step::Void { key, token, now })?;
+            self.void(key, token, now)?;
             Ok(SetAnswer::Void)
         }
     }

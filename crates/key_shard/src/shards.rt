@@ -1,10 +1,11 @@
-ghost use Rattle.std.specs.Prelude.{◌≡◌, ◌≢◌, true, false, ◌↔◌, ◌≤◌, ◌<◌, ◌∷◌, ◌++◌, [], IfOk, OnOk, OnErr, IfErr, IfSome, IfNone, IsTrue, Some, None, option_map, is_some, min, length, ◌^◌, ◌-◌, ℕ};
+ghost use Rattle.std.specs.Prelude.{◌≡◌, ◌≢◌, true, false, ◌↔◌, ◌≤◌, ◌<◌, ◌∷◌, ◌++◌, [], IfOk, OnOk, OnErr, IfErr, IfSome, IfNone, IsTrue, Some, None, option_map, min, length, ◌^◌, ◌-◌, ℕ};
 ghost use Rattle.std.specs.Bool.{IsFalse};
+ghost use Rattle.lease_table.specs.Lapses.{HasLapsed, NoneLapsed, NoneLapsedBefore};
 ghost use Rattle.lease_table.specs.Expiry.{NoneDue, NoneDueBefore, StandsDue};
 ghost use Rattle.key_shard.specs.Dues.{first_due};
 ghost use Rattle.key_shard.specs.Answers.{get_step, set_step, quarantine_step, release_step, replace_step, sweep_step, raise_step, renew_step, FitsMode, FitsShift, IsAtHome, Legal};
 ghost use Rattle.entry_table.specs.Entries.{keys, lookup};
-ghost use Rattle.key_shard.specs.Past.{entry, order, quar_of, standing};
+ghost use Rattle.key_shard.specs.Past.{entry, order, quar_of, recorded, standing};
 ghost use Rattle.key_shard.specs.Replies.{ShowsGot, ShowsSet, ShowsQuarantine, ShowsRaise, ShowsRelease, ShowsRenewal, sweep_answer};
 ghost use Rattle.key_shard.specs.Shards.{kept_of, past_of, is_out, after_raise, stepped, returned, swept, refusal, Refuses};
 
@@ -15,7 +16,7 @@ use crate::outs::Outs;
 use crate::replies::{Back, Got, How, QAnswer, Raising, Rel, Renewal, SetAnswer, ShardFault};
 use crate::steps::Step;
 use entry_table::Entries;
-use lease_table::{Due, Leases, Mode};
+use lease_table::{Due, Lapse, Leases, Mode};
 use rows_model::{Memory, QKey, Sid, Value};
 use std::alloc::Global;
 use std::marker::Model;
@@ -205,7 +206,8 @@ impl Shard {
 
     /// Stores a value under an I lease, and ends the lease: the entry stands in front, and in a full
     /// shard the last one makes room. Where the token's lease is not recorded, or is past its
-    /// deadline, the answer is Void, and no entry, order or lease changes.
+    /// deadline, the answer is Void, and no entry or order changes. A lease past its deadline is dropped
+    /// then, which no request of that time or a later one can tell.
     pub fn set(
         &mut self,
         key: QKey,
@@ -422,5 +424,43 @@ impl Shard {
             ≡ entry key.now (past_of self.now) }
     {
         self.body.entries.peek(key)
+    }
+
+    /// Whether it rolls. A whole shard doesn't. It takes no memory.
+    pub fn rolls(&self) -> bool
+        ensures { result ≡ self.now.terms.rolls }
+    {
+        self.body.history.rolls()
+    }
+
+    /// A time before which no lease to read is past its deadline, so that `lapse` finds none until then. It
+    /// takes no memory.
+    pub fn next_lapse(&self) -> u64
+        ensures { (now : ℕ) → now < result
+            → NoneLapsed now (λ key. recorded key (past_of self.now)) }
+    {
+        self.body.next_lapse()
+    }
+
+    /// Drops the lease to read that has the earliest deadline, if that has come, and answers it; none exactly
+    /// where no deadline of a lease to read has come. Its step is a set under the lease's token that is void,
+    /// which no later request can tell. For want of memory everything is as before.
+    pub fn lapse(&mut self, now: u64) -> Result<Option<Lapse>, Memory>
+        ensures step { IfOk result (λ found. IfSome found (λ lapse. self.new
+            ≡ stepped self.old (Step.Void lapse.key lapse.token now))) }
+        ensures lapsed { IfOk result (λ found. IfSome found
+            (HasLapsed now (λ key. recorded key (past_of self.old)))) }
+        ensures least { IfOk result (λ found. IfSome found
+            (NoneLapsedBefore (λ key. recorded key (past_of self.old)))) }
+        ensures none { IfOk result (λ found. IfNone found
+            (NoneLapsed now (λ key. recorded key (past_of self.old)))) }
+        ensures left { IfOk result (λ found. IfNone found (self.new ≡ self.old)) }
+        ensures err { OnErr result (self.new ≡ self.old) }
+    {
+        let Some(lapse) = self.body.first_lapsed(now) else {
+            return Ok(None);
+        };
+        self.body.end_lapsed(lapse, now)?;
+        Ok(Some(lapse))
     }
 }

@@ -72,7 +72,8 @@ pub enum Step {
         stamp: u64,
         evicted: Option<QKey>,
     },
-    /// A set under a token that did not stand, or no longer. It changes nothing.
+    /// A set under a token that did not stand, or no longer. It stores nothing. Where the lease of its token
+    /// is recorded and past its deadline, that is dropped.
     Void {
         key: QKey,
         token: u64,

@@ -11,6 +11,7 @@ use Rattle.lease_table.specs.declared.records.Quar.{Quar}
 use Rattle.lease_table.specs.declared.records.ReadLease.{ReadLease}
 use Rattle.lease_table.specs.declared.records.KeyLeases.{KeyLeases}
 use Rattle.lease_table.specs.declared.index.Index.{Index}
+use Rattle.lease_table.specs.Lapses.{is_lapsed}
 use Rattle.lease_table.specs.Leases.{quars, reads, recorded, first, way_of, holding, has_token, is_current, raise_in, raised, renewed, MayStand}
 use Rattle.lease_table.specs.Leases.{Leaves}
 use Rattle.lease_table.specs.Index.{is_listed, ListsEach, IsSound, KeepsOthers}
@@ -98,6 +99,27 @@ module _ (key : QKey) (token now : ℕ) (old new : Map) (index : Index)
 
   pub Leaves-take : Leaves key None (quars key (records old.entries)) (records old.entries) (records new.entries)
   Leaves-take = Leaves-readers key [] old new index kept free-take puts
+
+-- where one has lapsed no quarantine stands either
+no-quars-lapsed : (token now : ℕ) (standing : List Quar) (readers : List ReadLease)
+    → MayStand standing readers → is_lapsed token now (first readers) ≡ true → standing ≡ []
+no-quars-lapsed token now standing [] may lapsed = cc
+no-quars-lapsed token now [] (r ∷ rs) may lapsed = refl
+no-quars-lapsed token now (q ∷ qs) (r ∷ rs) may lapsed = let none = may.apart (omega arith) in absurd (omega arith)
+
+-- and the lease to read is ended
+module _ (key : QKey) (token now : ℕ) (old new : Map) (index : Index)
+    (kept : IsKept old index) (lapsed : is_lapsed token now (recorded key (records old.entries)) ≡ true) (puts : PutsOn key [] [] old new) where
+  free-lapsed : quars key (records old.entries) ≡ []
+  free-lapsed =
+      no-quars-lapsed token now (quars key (records old.entries)) (reads key (records old.entries)) (kept.table key) lapsed
+
+  pub IsKept-lapsed : IsKept new index
+  IsKept-lapsed =
+      IsKept-readers key [] old new index kept free-lapsed puts (MayStand-drop_read [] (reads key (records old.entries)) (rw free-lapsed at (kept.table key)))
+
+  pub Leaves-lapsed : Leaves key None (quars key (records old.entries)) (records old.entries) (records new.entries)
+  Leaves-lapsed = Leaves-readers key [] old new index kept free-lapsed puts
 
 -- ---- a quarantine more
 

@@ -3,6 +3,7 @@ pub mod CopyLemmas
 pub mod DueLemmas
 pub mod IndexLemmas
 pub mod KeyLemmas
+pub mod LapseLemmas
 pub mod ListLemmas
 pub mod ListedLemmas
 pub mod MapLemmas

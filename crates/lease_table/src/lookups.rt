@@ -2,6 +2,7 @@ ghost use Rattle.std.specs.Prelude.{◌≡◌, ◌+◌, ◌<◌, [], not, find, 
 ghost use Rattle.std.specs.List.{list_any};
 ghost use Rattle.case_tables.specs.Compatibility.{verdict, row_of, others_row, way_number, is_invalidate, read, quarantine};
 ghost use Rattle.lease_table.specs.Leases.{first, own_in, holder_in, is_of, has_token, is_unexpired, is_current, way_of, holding_of, is_raisable, raise_in, StandBeside};
+ghost use Rattle.lease_table.specs.Lapses.{is_lapsed};
 ghost use Rattle.lease_table.specs.Standing.{leases_on, quars_of, reads_of, stands_in};
 
 use crate::records::{KeyLeases, LeaseMap, Mode, Quar, ReadLease};
@@ -114,6 +115,13 @@ pub fn is_current_at(lease: Option<ReadLease>, token: u64, now: u64) -> bool
     ensures { result ≡ is_current token now lease }
 {
     lease.is_some_and(|lease| lease.token == token && now < lease.deadline)
+}
+
+/// Whether there is a lease to read, it has this token, and its deadline has come.
+pub fn is_lapsed_at(lease: Option<ReadLease>, token: u64, now: u64) -> bool
+    ensures { result ≡ is_lapsed token now lease }
+{
+    lease.is_some_and(|lease| lease.token == token && lease.deadline <= now)
 }
 
 /// Whether the quarantine is the session's, has the token and is to invalidate.

@@ -84,3 +84,11 @@ pub struct Due {
     pub sid: Sid,
     pub token: u64,
 }
+
+/// When a lease to read a key lapses, and which lease it is. They are in order of their deadlines.
+#[derive(Clone, Copy, PartialEq, Eq, PartialOrd, Ord)]
+pub struct Lapse {
+    pub deadline: u64,
+    pub key: QKey,
+    pub token: u64,
+}

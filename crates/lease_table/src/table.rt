@@ -2,13 +2,18 @@ ghost use Rattle.std.specs.Prelude.{◌≡◌, ◌<◌, ◌≤◌, [], ◌∷◌
 ghost use Rattle.std.specs.List.{All, AllPairs, list_all};
 ghost use Rattle.case_tables.specs.Compatibility.{verdict, is_given, is_raised, row_of, read, quarantine};
 ghost use Rattle.lease_table.specs.Expiry.{NoneDue, NoneDueBefore, quars_in, StandsDue};
+ghost use Rattle.lease_table.specs.Lapses.{is_lapsed, reader_in, HasLapsed, NoneLapsed, NoneLapsedBefore};
 ghost use Rattle.lease_table.specs.Leases.{quars, recorded, own_quar, holder_in, has_token, is_current, way_of, holding, first, others_in, raise_in, raised, renewed, IsTable, Leaves, StandBeside};
 
 use crate::dues::first_due;
-use crate::edits::{Change, change_quar, drop_quar, drop_read, put_quar, put_read};
+use crate::edits::{Change, change_quar, drop_quar};
 use crate::index::Index;
-use crate::lookups::{OnKey, holder_of, is_current_at, on_key, other_quar, quar_with};
-use crate::records::{Due, LeaseMap, Mode, Quar, ReadLease};
+use crate::lapses::Lapses;
+use crate::lookups::{
+    OnKey, holder_of, is_current_at, is_lapsed_at, on_key, other_quar, quar_with,
+};
+use crate::readers::{end_read, record_quar, record_read};
+use crate::records::{Due, Lapse, LeaseMap, Mode, Quar, ReadLease};
 use case_tables::Verdict;
 use rows_model::{Memory, QKey, Sid};
 use std::alloc::Global;
@@ -20,7 +25,10 @@ use std::marker::Model;
 #[derive(Drop)]
 pub struct Leases {
     leases: LeaseMap,
+    /// The quarantines by their deadlines.
     index: Index,
+    /// The leases to read by their deadlines.
+    lapses: Lapses,
     alloc: Global,
 }
 
@@ -28,12 +36,14 @@ impl Model for Leases {
     ghost use Rattle.std.specs.Prelude.{List};
     ghost use Rattle.lease_table.specs.declared.records.Lease.{Lease};
     ghost use Rattle.lease_table.specs.Standing.{records, IsKept};
+    ghost use Rattle.lease_table.specs.Lapses.{AreListed};
 
     ghost Value = { List Lease };
 
     ghost view = { λ table. records table.leases.entries };
 
-    ghost invariant = { λ table. IsKept table.leases table.index };
+    ghost invariant = { λ table.
+        IsKept table.leases table.index × AreListed table.leases table.lapses };
 }
 
 impl Leases {
@@ -44,6 +54,7 @@ impl Leases {
         Leases {
             leases: BTreeMap::new(alloc),
             index: Index::new(alloc),
+            lapses: Lapses::new(alloc),
             alloc,
         }
     }
@@ -55,9 +66,11 @@ impl Leases {
     {
         let leases = self.leases.clone()?;
         let index = self.index.copy()?;
+        let lapses = self.lapses.copy()?;
         Ok(Leases {
             leases,
             index,
+            lapses,
             alloc: self.alloc,
         })
     }
@@ -102,7 +115,9 @@ impl Leases {
             (verdict (holding key sid now self.old) read))) }
         ensures err { OnErr result (self.new ≡ self.old) }
     {
-        let verdict = self.on_key(&key).read_verdict(sid, now);
+        let there = self.on_key(&key);
+        let reader = there.reader;
+        let verdict = there.read_verdict(sid, now);
         match verdict {
             Verdict::Wait
             | Verdict::Same
@@ -116,7 +131,7 @@ impl Leases {
                     token,
                     deadline,
                 };
-                put_read(&mut self.leases, key, read)?;
+                record_read(&mut self.leases, &mut self.lapses, key, reader, read)?;
             }
         }
         Ok(verdict)
@@ -146,7 +161,9 @@ impl Leases {
             (verdict (holding key q.sid now self.old) (quarantine (way_of q.mode))))) }
         ensures err { OnErr result (self.new ≡ self.old) }
     {
-        let verdict = self.on_key(&key).quar_verdict(q.sid, q.mode, now);
+        let there = self.on_key(&key);
+        let reader = there.reader;
+        let verdict = there.quar_verdict(q.sid, q.mode, now);
         match verdict {
             Verdict::Wait
             | Verdict::Same
@@ -156,7 +173,14 @@ impl Leases {
             | Verdict::Gone => {}
             Verdict::Give | Verdict::Void | Verdict::Join => {
                 self.index.list(&self.leases, key, &q)?;
-                put_quar(&mut self.leases, self.alloc, key, q)?;
+                record_quar(
+                    &mut self.leases,
+                    &mut self.lapses,
+                    self.alloc,
+                    key,
+                    reader,
+                    q,
+                )?;
             }
         }
         Ok(verdict)
@@ -216,11 +240,52 @@ impl Leases {
             (Leaves key.now None (quars key.now self.old) self.old self.new)
             (self.new ≡ self.old) }
     {
-        if !is_current_at(self.on_key(key).reader, token, now) {
+        let reader = self.on_key(key).reader;
+        if !is_current_at(reader, token, now) {
             return false;
         }
-        drop_read(&mut self.leases, key);
+        end_read(&mut self.leases, &mut self.lapses, key, reader);
         true
+    }
+
+    /// Ends the lease to read the key that has this token, and says whether it did: exactly where that
+    /// lease is recorded and its deadline has come. Else the table stays. It takes no memory.
+    pub fn end_lapsed(&mut self, key: &QKey, token: u64, now: u64) -> bool
+        ensures lapsed { result ≡ is_lapsed token now (recorded key.now self.old) }
+        ensures after { MatchBool result
+            (Leaves key.now None (quars key.now self.old) self.old self.new)
+            (self.new ≡ self.old) }
+    {
+        let reader = self.on_key(key).reader;
+        if !is_lapsed_at(reader, token, now) {
+            return false;
+        }
+        end_read(&mut self.leases, &mut self.lapses, key, reader);
+        true
+    }
+
+    /// The lease to read that is recorded with the earliest deadline, if that has come; none exactly where
+    /// none has come. It takes no memory.
+    pub fn first_lapsed(&self, now: u64) -> Option<Lapse>
+        ensures lapsed { IfSome result (HasLapsed now (reader_in self.now)) }
+        ensures least { IfSome result (NoneLapsedBefore (reader_in self.now)) }
+        ensures none { IfNone result (NoneLapsed now (reader_in self.now)) }
+    {
+        match self.lapses.first() {
+            Some(first) if first.deadline <= now => Some(first),
+            _ => None,
+        }
+    }
+
+    /// A time before which no lease to read lapses: the earliest deadline of one, or the last time that
+    /// there is. It takes no memory.
+    pub fn next_lapse(&self) -> u64
+        ensures { (now : ℕ) → now < result → NoneLapsed now (reader_in self.now) }
+    {
+        match self.lapses.first() {
+            Some(first) => first.deadline,
+            None => u64::MAX,
+        }
     }
 
     /// Ends the quarantine on the key that has this token, and answers it. Where none has, the table stays.

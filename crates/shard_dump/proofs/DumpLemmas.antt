@@ -35,17 +35,17 @@ last_one : {Y : Type 0} (o : Option Y) (ys : List Y) → reverse ys ++ cons_opti
 last_one None ys = append-nil (reverse ys)
 last_one (Some y) ys = sym (reverse-append (y ∷ []) ys)
 
-filter_map-reverse : {X Y : Type 0} (h : X → Option Y) (xs : List X) → filter_map h (reverse xs) ≡ reverse (filter_map h xs)
+pub filter_map-reverse : {X Y : Type 0} (h : X → Option Y) (xs : List X) → filter_map h (reverse xs) ≡ reverse (filter_map h xs)
 filter_map-reverse h [] = refl
 filter_map-reverse {Y = Y} h (x ∷ xs) =
     ap (filter_map h) (reverse-append (x ∷ []) xs) ∙ filter_map-append h (reverse xs) (x ∷ [])
     ∙ ap (λ (t : List Y). t ++ cons_option (h x) []) (filter_map-reverse h xs) ∙ last_one (h x) (filter_map h xs)
 
 -- the entry of each item is its own
-abbrev AreFound : List Step → List Item → Type 0
+abbrev pub AreFound : List Step → List Item → Type 0
 AreFound past items = AllByRecursion (λ x. entry x.0 past ≡ Some (x.1, x.2)) items
 
-all_found : (items : List Item) (past : List Step) → AreOnce (keys items) → ((key : QKey) → has key (keys items) ≡ true → lookup key items ≡ entry key past)
+pub all_found : (items : List Item) (past : List Step) → AreOnce (keys items) → ((key : QKey) → has key (keys items) ≡ true → lookup key items ≡ entry key past)
     → AreFound past items
 all_found [] past once found = tt
 all_found (e ∷ items) past once found =
@@ -151,7 +151,7 @@ all_differ log past (k ∷ ks) h =
         ks (apart k ks h.0) in
         all_pairs_push (λ (row later : DumpRow). row.key ≢ later.key) rows row rest others
 
-row_count : (h : QKey → Option DumpRow) (ks : List QKey) → length (filter_map h ks) ≤ length ks
+pub row_count : (h : QKey → Option DumpRow) (ks : List QKey) → length (filter_map h ks) ≤ length ks
 row_count h [] = omega arith
 row_count h (k ∷ ks) = by (h k) (row_count h ks)
   where

@@ -6,3 +6,4 @@ pub mod ShardLemmas
 pub mod DumpLemmas
 pub mod LoadLemmas
 pub mod TouchLemmas
+pub mod AnsweredLemmas

@@ -6,3 +6,4 @@ pub mod Faults
 pub mod Dumps
 pub mod Loads
 pub mod Touches
+pub mod Answered

@@ -1,6 +1,7 @@
 //! The entries of a shard as text, the rows that such a text says, and how they are loaded again.
 #![tactic(auto)]
 
+pub use answered::dump_answered;
 pub use asked::are_answers;
 pub use dumps::{dump, dump_beside};
 pub use faults::{DumpFault, LoadFault};
@@ -10,6 +11,7 @@ pub use reading::read_dump;
 pub use rows::{Dump, DumpRow, DumpRows};
 pub use touches::LastTouches;
 
+pub mod answered;
 pub mod asked;
 pub mod dumps;
 pub mod faults;

@@ -1,6 +1,6 @@
 -- What a store tells after a commit, and which sessions are open.
 use Rattle.std.proofs.Common.{◌≡◌, ◌≢◌, ℕ, ◌+◌, ◌-◌, ◌^◌, ◌≤◌, ◌⊎◌, inl, inr, Bool, true, false, List, [], ◌∷◌, ◌++◌, length, Option, Some}
-use Rattle.std.proofs.Common.{◌<◌, map, take, drop, None, IsSome, Ok, slice_get, slice_set, slice_index_or, if◌then◌else◌, ◌==◌, zero, suc, refl, sym, ap, ◌∙◌}
+use Rattle.std.proofs.Common.{None, IsSome, Ok, slice_get, slice_set, slice_index_or, if◌then◌else◌, ◌==◌, zero, suc, refl, sym, ap, ◌∙◌}
 use Rattle.std.proofs.Common.{arith}
 use Rattle.std.proofs.lemmas.List.Sums.{fold-append}
 use Rattle.std.proofs.lemmas.List.Elements.{All-push, All-weaker}
@@ -18,7 +18,7 @@ use Rattle.sql_keeper.specs.declared.stores.Commit.{Commit}
 use Rattle.sql_keeper.specs.declared.stores.Phase.{Phase}
 use Rattle.sql_keeper.specs.declared.stores.Phase.TheVariants.{Reads, Open, Committed, Ended}
 use Rattle.sql_keeper.specs.Log.{rows_after, after_commit, led_to}
-use Rattle.sql_keeper.specs.Sessions.{phase_of, may_commit, is_open, closed, with_phase}
+use Rattle.sql_keeper.specs.Sessions.{phase_of, may_commit, is_open, with_phase}
 use Rattle.sql_keeper.specs.Stores.{Ledger, IsLedger, with_commit}
 
 -- rows that are told are some rows
@@ -34,7 +34,7 @@ rows-committed opening log sid txn after h =
     sym (fold-append after_commit opening log (record { sid = sid; txn = txn } ∷ []) ∙ ap (led_to (rows_after opening log)) h)
 
 -- a session that may commit is open
-may-open : (phase : Option Phase) → may_commit phase ≡ true → phase ≡ Some Open
+pub may-open : (phase : Option Phase) → may_commit phase ≡ true → phase ≡ Some Open
 may-open None h = grind (arith, h)
 may-open (Some Reads) h = grind (arith, h)
 may-open (Some Open) h = refl
@@ -55,14 +55,6 @@ get-set_same [] i x y h = grind (arith, h)
 get-set_same (z ∷ zs) zero x y h = refl
 get-set_same (z ∷ zs) (suc i) x y h = get-set_same zs i x y h
 
--- sessions of which the first are closed, once the next one is too
-pub closed-next : (sessions : List Phase) (i : ℕ) (other : Phase) → i < length sessions
-    → slice_set (map closed (take i sessions) ++ drop i sessions) i (closed (slice_index_or (map closed (take i sessions) ++ drop i sessions) i other))
-    ≡ map closed (take (suc i) sessions) ++ drop (suc i) sessions
-closed-next [] i other h = absurd (omega (arith, h))
-closed-next (x ∷ xs) zero other h = refl
-closed-next (x ∷ xs) (suc i) other h = ap (λ (l : List Phase). closed x ∷ l) (closed-next xs i other (omega (arith, h)))
-
 -- a session that has begun has a number from 1, and stands in its place
 begun-place : (number : ℕ) (sessions : List Phase) (phase : Phase) → (if number == 0 then None else slice_get sessions (number - 1)) ≡ Some phase
     → (1 ≤ number) × (slice_get sessions (number - 1) ≡ Some phase)
@@ -74,6 +66,22 @@ place-begun : (number : ℕ) (sessions : List Phase) (phase : Phase) → 1 ≤ n
     → (if number == 0 then None else slice_get sessions (number - 1)) ≡ Some phase
 place-begun zero sessions phase some h = absurd (omega arith)
 place-begun (suc n) sessions phase some h = grind (arith, h)
+
+elsewhere : (number place : ℕ) (phase : Phase) (sessions : List Phase) → (1 ≤ number → number - 1 ≢ place)
+    → (if number == 0 then None else slice_get (slice_set sessions place phase) (number - 1)) ≡ (if number == 0 then None else slice_get sessions (number - 1))
+elsewhere zero place phase sessions apart = refl
+elsewhere (suc n) place phase sessions apart =
+    let same = get-set_other sessions place (suc n - 1) phase (apart (omega arith)) in
+    grind (arith, same)
+
+-- a session of another number stands as before when the phase of one that is open changes
+pub phase-elsewhere : (who other : Sid) (phase : Phase) (sessions : List Phase)
+    → phase_of who sessions ≡ Some Open
+    → (other.number ≡ who.number → ⊥)
+    → phase_of other (with_phase who phase sessions) ≡ phase_of other sessions
+phase-elsewhere who other phase sessions is_open apart =
+    let here = begun-place who.number sessions Open is_open in
+    elsewhere other.number (who.number - 1) phase sessions (λ some e. apart (omega (arith, here.0, some, e)))
 
 -- a session that is open hasn't the number of one that has committed
 pub other-number : (who other : Sid) (sessions : List Phase)

@@ -7,6 +7,7 @@ pub mod Faults
 pub mod Keepers
 pub mod Log
 pub mod Sessions
+pub mod Turns
 pub mod Stores
 pub mod Moves
 pub mod MapKeepers

@@ -3,14 +3,15 @@
 
 pub use faults::{AfterFault, CommitFault, KeepFault};
 pub use keepers::{Keeper, Place, Telling};
+pub use logs::CommitLog;
 pub use map_keeper::MapKeeper;
-pub use store::{NoStore, Start, Store, Unnamed};
+pub use store::{NO_CAP, NoStore, Start, Store, Unnamed};
 pub use stores::{Answer, Closed, Commit, Phase};
 
 pub mod faults;
 pub mod keepers;
 pub mod laws;
-mod logs;
+pub mod logs;
 pub mod map_keeper;
 mod requests;
 mod sessions;

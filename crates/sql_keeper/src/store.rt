@@ -1,24 +1,29 @@
-ghost use Rattle.std.specs.Prelude.{◌≡◌, ◌≢◌, ◌+◌, ◌≤◌, ℕ, Option, Some, None, Ok, All, AllPairs, length, MatchResult, IfOk, IfErr, OnOk, OnErr, IsSome, IsTrue};
+ghost use Rattle.std.specs.Prelude.{◌≡◌, ◌≢◌, [], ◌+◌, ◌≤◌, ℕ, Option, Some, None, Ok, All, AllPairs, length, MatchResult, IfOk, IfErr, OnOk, OnErr, IsSome, IsTrue};
 ghost use Rattle.std.specs.Bool.{IsFalse};
 ghost use Rattle.std.specs.Option.{ForSome};
 ghost use Rattle.rows_model.specs.Rows.{Tables};
 ghost use Rattle.rows_model.specs.Query.{answer};
 ghost use Rattle.rows_model.specs.Changes.{apply_all};
 ghost use Rattle.sql_keeper.specs.Keepers.{AreHeld, HoldsFresh, AnswersAfter};
+ghost use Rattle.sql_keeper.specs.Log.{keeps_log};
 ghost use Rattle.sql_keeper.specs.Sessions.{is_open, has_committed};
 ghost use Rattle.sql_keeper.specs.Faults.{has_failed, keep_failed, staged_failed, is_failure, Counts, FailedSince};
 ghost use Rattle.sql_keeper.specs.Stores.{rows_of, first_fault, opened, with_session, with_end, with_commit, with_call, rebased, IsRefusal, IsTrueFault};
 
 use crate::faults::{AfterFault, CommitFault, KeepFault};
 use crate::keepers::{Keeper, Place};
-use crate::logs::rows_after;
+use crate::logs::{CommitLog, rows_after};
 use crate::requests::admit;
 use crate::sessions::Sessions;
-use crate::stores::{Answer, Closed, Commit, Phase};
+use crate::stores::{Answer, Closed, Commit};
 use key_shard::Grant;
 use rows_model::{Memory, QKey, Rows, Sid, Txn, Value};
 use std::alloc::Global;
 use std::marker::{Brand, Model, PhantomData};
+
+/// The cap of a store that takes as many commits as a number can count. It doesn't keep its log in memory:
+/// contracts alone see it.
+pub const NO_CAP: u64 = u64::MAX;
 
 /// Names the count of faults at which a store's keeper stood when it was started.
 ///
@@ -56,7 +61,7 @@ impl Start for Unnamed {
 pub struct Store<K: Keeper, N: Start = Unnamed> {
     keeper: K,
     opening: Rows,
-    log: Vec<Commit>,
+    log: CommitLog,
     sessions: Sessions,
     cap: u64,
     failed: u64,
@@ -66,7 +71,7 @@ pub struct Store<K: Keeper, N: Start = Unnamed> {
 impl<K: Keeper, N: Start> Model for Store<K, N> {
     ghost use Rattle.std.specs.Prelude.{◌≡◌};
     ghost use Rattle.std.specs.Option.{ForSome};
-    ghost use Rattle.sql_keeper.specs.Log.{rows_after};
+    ghost use Rattle.sql_keeper.specs.Log.{rows_after, keeps_log};
     ghost use Rattle.sql_keeper.specs.Faults.{FailedSince};
     ghost use Rattle.sql_keeper.specs.Stores.{StoreView, IsLedger};
 
@@ -93,7 +98,8 @@ impl<K: Keeper, N: Start> Model for Store<K, N> {
           failed = s.failed;
         })
         × ForSome (K.rows s.keeper) (λ known. known ≡ rows_after s.opening s.log.items)
-        × FailedSince N.count s.failed (K.faults s.keeper) };
+        × FailedSince N.count s.failed (K.faults s.keeper)
+        × (s.log.keeps ≡ keeps_log s.cap) };
 }
 
 /// A keeper that didn't start, and why. Its rows are as before, and its count of faults too, unless it
@@ -107,6 +113,7 @@ pub struct NoStore<K: Keeper> {
 impl<K: Keeper> Store<K> {
     /// Starts the keeper, with so many members at a fresh place. The rows that it has are the opening
     /// rows: those of the place, where these are told. The log is empty, and takes at most `cap` commits.
+    /// It is kept in memory, unless the cap is `NO_CAP`.
     pub fn new(
         alloc: Global,
         keeper: K,
@@ -116,7 +123,6 @@ impl<K: Keeper> Store<K> {
     ) -> Result<Store<K>, NoStore<K>>
         requires some { 1 ≤ members }
         requires few { members ≤ 100000 }
-        requires cap { cap ≤ 8000000 }
         ensures opened { IfOk result (λ store. store.ledger ≡ opened store.ledger.opening cap) }
         ensures told { IfOk result (λ store.
             ForSome store.known_rows (λ known. known ≡ store.ledger.opening)) }
@@ -135,7 +141,7 @@ impl<K: Keeper> Store<K> {
             Ok(opening) => Ok(Store {
                 keeper,
                 opening,
-                log: Vec::new(alloc),
+                log: CommitLog::new(alloc, cap != NO_CAP),
                 sessions: Sessions::new(alloc),
                 cap,
                 failed: 0,
@@ -196,8 +202,8 @@ impl<K: Keeper, N: Start> Store<K, N> {
         ensures counts { Counts (keep_failed result) self.old.faults self.new.faults }
         ensures never_falls { self.old.faults ≤ self.new.faults }
     {
-        let stamp = self.log.len() as u64;
-        match self.keeper.ask(*self.log.allocator(), key) {
+        let stamp = self.log.len();
+        match self.keeper.ask(self.log.allocator(), key) {
             Ok(value) => Ok(Answer {
                 key: *key,
                 value,
@@ -220,7 +226,7 @@ impl<K: Keeper, N: Start> Store<K, N> {
         ensures counts { Counts (staged_failed result) self.old.faults self.new.faults }
         ensures never_falls { self.old.faults ≤ self.new.faults }
     {
-        match self.keeper.ask_after(*self.log.allocator(), txn, key) {
+        match self.keeper.ask_after(self.log.allocator(), txn, key) {
             Ok(value) => Ok(value),
             Err(AfterFault::Failed) => {
                 self.failed = self.failed.saturating_add(1);
@@ -263,19 +269,19 @@ impl<K: Keeper, N: Start> Store<K, N> {
         if let Err(fault) = admit(&self.sessions, &mut self.log, self.cap, sid, &txn, grants) {
             return Err((fault, txn));
         }
-        if let Err(fault) = self.keeper.commit(*self.log.allocator(), &txn) {
+        if let Err(fault) = self.keeper.commit(self.log.allocator(), &txn) {
             if fault == AfterFault::Failed {
                 self.failed = self.failed.saturating_add(1);
             }
             return Err((CommitFault::from(fault), txn));
         }
-        self.log.push_reserved(Commit { sid, txn });
-        self.sessions.close(sid, Phase::Committed);
-        Ok(self.log.len() as u64)
+        self.log.push(sid, txn);
+        self.sessions.close(sid);
+        Ok(self.log.len())
     }
 
     /// Ends the session, if it is open, and tells whether it was. It isn't open afterwards. It takes no
-    /// memory.
+    /// memory, and where it was open some for it stays taken until it is forgotten.
     pub fn end(&mut self, sid: Sid) -> Closed
         ensures sid { result.sid ≡ sid }
         ensures was { result.was ≡ is_open sid self.old.ledger.sessions }
@@ -293,13 +299,22 @@ impl<K: Keeper, N: Start> Store<K, N> {
         self.sessions.is_open(sid)
     }
 
-    /// Whether the session has committed. Each session of the log has. It takes no memory.
-    pub fn has_committed(&self, sid: Sid) -> bool
-        ensures was { result ≡ has_committed sid self.now.ledger.sessions }
+    /// Whether the session may have committed. It hasn't where it is open, or was ended and isn't
+    /// forgotten. Else nobody knows by now. Each session of the log has committed. It takes no memory.
+    pub fn may_have_committed(&self, sid: Sid) -> bool
+        ensures has_not { IsFalse result → IsFalse (has_committed sid self.now.ledger.sessions) }
         ensures logged { All (λ commit. IsTrue (has_committed commit.sid self.now.ledger.sessions))
             self.now.ledger.log }
     {
-        self.sessions.has_committed(sid)
+        self.sessions.may_have_committed(sid)
+    }
+
+    /// Forgets that a session was ended before it committed, where it was: from then on it takes no
+    /// memory. Contracts see it all the same. One that is open stays so.
+    pub fn forget(&mut self, sid: Sid)
+        ensures { self.new ≡ self.old }
+    {
+        self.sessions.forget(sid);
     }
 
     /// The rows that the keeper started with.
@@ -309,14 +324,17 @@ impl<K: Keeper, N: Start> Store<K, N> {
         &self.opening
     }
 
-    /// The commits, the earliest first. Each session committed at most once, and isn't open. Where the
-    /// keeper tells its rows, they are the opening rows after these commits.
+    /// The commits, the earliest first: all, where the log is kept in memory, and else none. Each session
+    /// of the log committed at most once, and isn't open. Where the keeper tells its rows, they are the
+    /// opening rows after the log.
     pub fn log(&self) -> &[Commit]
-        ensures items { result.now ≡ self.now.ledger.log }
-        ensures few { length result.now ≤ self.now.ledger.cap }
-        ensures once { AllPairs (λ commit later. commit.sid.number ≢ later.sid.number) result.now }
+        ensures items { IsTrue (keeps_log self.now.ledger.cap) → result.now ≡ self.now.ledger.log }
+        ensures none { IsFalse (keeps_log self.now.ledger.cap) → result.now ≡ [] }
+        ensures few { length self.now.ledger.log ≤ self.now.ledger.cap }
+        ensures once { AllPairs (λ commit later. commit.sid.number ≢ later.sid.number)
+            self.now.ledger.log }
         ensures closed { All (λ commit. IsFalse (is_open commit.sid self.now.ledger.sessions))
-            result.now }
+            self.now.ledger.log }
         ensures told { ForSome self.now.known_rows (λ known. known ≡ rows_of self.now.ledger) }
     {
         self.log.as_slice()
@@ -333,16 +351,21 @@ impl<K: Keeper, N: Start> Store<K, N> {
 
     /// The store made anew over the rows after its log: these are its opening rows, its log is empty, and
     /// each session that was open is ended. Keeper, cap, sessions and the count of failed calls go on. The
-    /// old opening rows and the old log come along. For want of memory the store comes back as it was.
-    pub fn rebase(self) -> Result<(Store<K, N>, Rows, Vec<Commit>), Store<K, N>>
+    /// old opening rows and the old log come along. For want of memory, and where the log isn't kept, the
+    /// store comes back as it was.
+    pub fn rebase(self) -> Result<(Store<K, N>, Rows, CommitLog), Store<K, N>>
         ensures ledger { IfOk result (λ made. made.0.ledger ≡ rebased self.ledger) }
         ensures keeper { IfOk result (λ made.
             (made.0.known_rows ≡ self.known_rows) × (made.0.faults ≡ self.faults)) }
         ensures opening { IfOk result (λ made. made.1 ≡ self.ledger.opening) }
         ensures log { IfOk result (λ made. made.2.items ≡ self.ledger.log) }
+        ensures keeps { IfOk result (λ made. IsTrue made.2.keeps) }
         ensures err { IfErr result (λ back. back ≡ self) }
     {
-        let Ok(rows) = rows_after(&self.opening, &self.log) else {
+        if self.cap == NO_CAP {
+            return Err(self);
+        }
+        let Ok(rows) = rows_after(&self.opening, self.log.as_slice()) else {
             return Err(self);
         };
         let Store {
@@ -358,7 +381,7 @@ impl<K: Keeper, N: Start> Store<K, N> {
         let made = Store {
             keeper,
             opening: rows,
-            log: Vec::new(*log.allocator()),
+            log: CommitLog::new(log.allocator(), cap != NO_CAP),
             sessions,
             cap,
             failed,
@@ -393,12 +416,13 @@ impl<K: Keeper, N: Start> Store<K, N> {
     }
 
     /// The keeper, the opening rows and the log.
-    pub fn into_parts(self) -> (K, Rows, Vec<Commit>)
+    pub fn into_parts(self) -> (K, Rows, CommitLog)
         ensures rows { K.rows result.0 ≡ self.known_rows }
         ensures faults { K.faults result.0 ≡ self.faults }
         ensures started { K.is_started result.0 }
         ensures opening { result.1 ≡ self.ledger.opening }
         ensures log { result.2.items ≡ self.ledger.log }
+        ensures keeps { result.2.keeps ≡ keeps_log self.ledger.cap }
         ensures told { ForSome self.known_rows (λ known. known ≡ rows_of self.ledger) }
         ensures since { FailedSince N.count self.ledger.failed self.faults }
     {

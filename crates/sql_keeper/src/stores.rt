@@ -1,5 +1,4 @@
 ghost use Rattle.std.specs.Prelude.{◌≡◌};
-ghost use Rattle.sql_keeper.specs.Sessions.{closed};
 
 use rows_model::{QKey, Sid, Txn, Value};
 
@@ -59,16 +58,4 @@ pub enum Phase {
     Committed,
     /// It was ended before it committed, and never will.
     Ended,
-}
-
-impl Phase {
-    /// Where the session stands once it was ended, if it was open.
-    pub(crate) fn closed(self) -> Phase
-        ensures { result ≡ closed self }
-    {
-        match self {
-            Phase::Open => Phase::Ended,
-            other => other,
-        }
-    }
 }

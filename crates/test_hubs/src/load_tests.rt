@@ -218,7 +218,7 @@ fn sessions(tally: Tally) -> u64 {
 fn check_tally(rt: &impl Abort, ran: &Ran, count: u64) {
     let total_of_all = total(ran.worked.transcripts.as_slice());
     let kept = Tally {
-        commits: ran.log.len() as u64,
+        commits: ran.log.len(),
         bypasses: total_of_all.bypasses,
         rejected: total_of_all.rejected,
         ..kept(ran.shards.as_slice())

@@ -13,7 +13,7 @@ use key_shard::Shard;
 use log_word::Pass;
 use rows_model::{Kind, Memory, QKey, Sid, shard_number};
 use session_client::{Desk, Plan, Shape, Wanted};
-use sql_keeper::{Commit, MapKeeper, Store};
+use sql_keeper::{CommitLog, MapKeeper, Store};
 use std::alloc::Global;
 use std::marker::Brand;
 use std::process::Abort;
@@ -37,7 +37,7 @@ pub struct Worked {
 #[derive(Drop)]
 pub struct Ran {
     pub worked: Worked,
-    pub log: Vec<Commit>,
+    pub log: CommitLog,
     pub shards: Vec<Shard>,
 }
 

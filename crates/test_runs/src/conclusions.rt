@@ -32,7 +32,7 @@ const PROFILE: QKey = QKey {
 };
 
 /// Whether the run ended done with so many commits.
-fn is_done(end: &RunEnd<MapKeeper>, commits: usize) -> bool {
+fn is_done(end: &RunEnd<MapKeeper>, commits: u64) -> bool {
     end.status == Status::Done && end.log.len() == commits
 }
 

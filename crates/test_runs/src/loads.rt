@@ -91,7 +91,7 @@ fn the_totals_of_a_load_are_those_of_what_it_keeps(rt: HostRuntime) -> Result<()
     assert!(rt; printed.ends_with(b"\naudit clean\n"));
     let totals = totals_in(rt.alloc(), printed)?;
     let counts = counted(end.histories.as_slice());
-    assert!(rt; are_those_kept(totals.as_slice(), counts, end.log.len() as u64));
+    assert!(rt; are_those_kept(totals.as_slice(), counts, end.log.len()));
     Ok(())
 }
 

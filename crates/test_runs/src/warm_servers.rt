@@ -3,6 +3,7 @@ use crate::outsides::{keeper, no_file, still_clock, unread_outside, words_of};
 use cache_file::MemFile;
 use callers::runs;
 use iq_outside::{ListDoor, MemLine, MemSink, MemSource, OpenGate};
+use sql_keeper::MapKeeper;
 use std::alloc::Global;
 use std::sync::Wait;
 use std::test::Fail;
@@ -92,10 +93,22 @@ fn door_of(alloc: Global, says: &[u8]) -> Result<ListDoor, Fail> {
 }
 
 /// How a server over this file ends that serves this client, if it prints this and the client is told what it must
-/// be.
+/// be. Its keeper fails at no call.
 fn ended(
     rt: &(impl Threads + Wait + Sync),
     alloc: Global,
+    file: &mut MemFile,
+    client: Client<'_>,
+    printed: &[u8],
+) -> Result<Option<Status>, Fail> {
+    ended_over(rt, alloc, keeper(alloc), file, client, printed)
+}
+
+/// The same over this keeper.
+fn ended_over(
+    rt: &(impl Threads + Wait + Sync),
+    alloc: Global,
+    keeper: MapKeeper,
     file: &mut MemFile,
     client: Client<'_>,
     printed: &[u8],
@@ -110,7 +123,7 @@ fn ended(
         words.as_slice(),
         &mut outside.source,
         &mut outside.sink,
-        keeper(alloc),
+        keeper,
         file,
         &mut door,
         &clock,
@@ -189,6 +202,24 @@ fn a_file_that_cannot_be_written_is_told_and_stays_as_it_was(rt: HostRuntime) ->
     };
     let end = ended(&rt, alloc, &mut file, client, NO_CACHE)?;
     assert!(rt; end == Some(Status::FileFault));
+    assert!(rt; file.text() == Some(b"old".as_slice()));
+    Ok(())
+}
+
+#[test]
+fn a_store_that_fails_at_the_end_is_told_and_the_file_stays(rt: HostRuntime) -> Result<(), Fail> {
+    let alloc = rt.alloc();
+    // The start is the first call of the keeper, the client's the second.
+    let mut fails = Vec::new(alloc);
+    fails.push(3)?;
+    let mut file = file_with(alloc, b"old", Vec::new(alloc))?;
+    let client = Client {
+        says: STORES,
+        told: STORED,
+    };
+    let keeper = MapKeeper::new(fails);
+    let end = ended_over(&rt, alloc, keeper, &mut file, client, NO_CACHE)?;
+    assert!(rt; end == Some(Status::KeepFault));
     assert!(rt; file.text() == Some(b"old".as_slice()));
     Ok(())
 }

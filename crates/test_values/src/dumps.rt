@@ -5,8 +5,8 @@ use crate::dump_helps::{new_shard, profile, read, says, store};
 use key_shard::{Got, Grant, How, QAnswer, Shard, Step};
 use lease_table::Mode;
 use rows_model::{Change, Name, QKey, Sid, Txn};
-use shard_dump::{LoadFault, are_answers, dump, load};
-use sql_keeper::{MapKeeper, Place, Store};
+use shard_dump::{LoadFault, are_answers, dump, dump_answered, load};
+use sql_keeper::{KeepFault, MapKeeper, Place, Store};
 use std::alloc::Global;
 use std::process::Abort;
 
@@ -14,13 +14,14 @@ use std::process::Abort;
 fn opened(rt: &impl Abort, alloc: Global) -> Store<MapKeeper>
     ensures { result.ledger.log ≡ [] }
 {
-    match Store::new(
-        alloc,
-        MapKeeper::new(Vec::new(alloc)),
-        &Place::Fresh,
-        3,
-        100,
-    ) {
+    opened_over(rt, alloc, MapKeeper::new(Vec::new(alloc)))
+}
+
+/// A store of three members over this keeper.
+fn opened_over(rt: &impl Abort, alloc: Global, keeper: MapKeeper) -> Store<MapKeeper>
+    ensures { result.ledger.log ≡ [] }
+{
+    match Store::new(alloc, keeper, &Place::Fresh, 3, 100) {
         Ok(store) => store,
         Err(none) => panic!(rt; "{:?}", none.cause),
     }
@@ -92,6 +93,50 @@ fn leaves_out_what_a_later_commit_touches(rt: HostRuntime) {
     let text = dumped(&rt, rt.alloc(), &mut rows);
     assert!(rt; text.as_slice() == b"iqdump 1 0 1 1\nprofile:3 6\nm3 0 0\nend\n".as_slice());
     says(&rt, &read(&rt, rt.alloc(), &text), 0, 1, &[(3, "m3 0 0")]);
+}
+
+/// A shard with an entry that isn't what the store answers, and behind it one that is.
+fn half_right(rt: &impl Abort, alloc: Global) -> Shard
+    ensures one_of { result.terms.no < result.terms.count }
+    ensures shards { result.terms.count ≡ 1 }
+    ensures room { result.terms.room ≡ 4 }
+{
+    let mut shard = new_shard(rt, alloc, 0, 1, 1);
+    store(rt, alloc, &mut shard, profile(1), "m9 0 0", 0);
+    store(rt, alloc, &mut shard, profile(3), "m3 0 0", 0);
+    shard
+}
+
+#[test]
+fn dumps_what_the_store_answers(rt: HostRuntime) {
+    let mut rows = opened(&rt, rt.alloc());
+    let shard = half_right(&rt, rt.alloc());
+    match dump_answered(rt.alloc(), &shard, &mut rows) {
+        Ok(text) => {
+            assert!(rt;
+                text.as_slice() == b"iqdump 1 0 1 1\nprofile:3 6\nm3 0 0\nend\n".as_slice()
+            );
+        }
+        Err(_) => panic!(rt; "no text"),
+    }
+    assert!(rt; rows.failed() == 0);
+}
+
+#[test]
+fn tells_a_call_that_fails_as_it_asks(rt: HostRuntime) {
+    let mut fails = Vec::new(rt.alloc());
+    if fails.push(3).is_err() {
+        panic!(rt; "no memory");
+    }
+    let mut rows = opened_over(&rt, rt.alloc(), MapKeeper::new(fails));
+    let shard = half_right(&rt, rt.alloc());
+    assert!(rt;
+        matches!(
+            dump_answered(rt.alloc(), &shard, &mut rows),
+            Err(KeepFault::Failed)
+        )
+    );
+    assert!(rt; rows.failed() == 1);
 }
 
 /// Loads the rows of a text into a new shard whose first token is this, once the store has been asked for

@@ -5,8 +5,8 @@ ghost use Rattle.key_shard.specs.Answers.{FitsShift};
 use crate::desks::{Desk, fault_text, got_text, rel_text, renewal_text, set_text};
 use crate::txns::value_of;
 use key_shard::{Back, How, Rel};
-use lease_table::{Due, Mode};
-use rows_model::{Kind, QKey, Sid};
+use lease_table::{Due, Lapse, Mode};
+use rows_model::{Kind, Memory, QKey, Sid};
 use std::alloc::{AllocError, Global};
 use std::mem;
 use std::process::Abort;
@@ -43,6 +43,8 @@ pub enum Call {
     Due(u64),
     /// Ends the quarantine of a token.
     Sweep(u32, u64),
+    /// Drops the lease to read that lapsed first, at a time, and tells the id of its member and its token.
+    Lapse(u64),
     /// How many steps are in memory.
     Steps,
 }
@@ -170,6 +172,18 @@ fn due_text(alloc: Global, due: Option<Due>) -> Result<String, AllocError> {
     }
 }
 
+fn lapse_text(
+    rt: &impl Abort,
+    alloc: Global,
+    found: Result<Option<Lapse>, Memory>,
+) -> Result<String, AllocError> {
+    match found {
+        Ok(Some(lapse)) => format!(in alloc; "{} {}", lapse.key.id, lapse.token),
+        Ok(None) => format!(in alloc; "none"),
+        Err(_) => panic!(rt; "no memory"),
+    }
+}
+
 /// Makes the call, and tells its answer.
 pub fn call_text(
     rt: &impl Abort,
@@ -197,6 +211,7 @@ pub fn call_text(
         Call::Change => desk.change_hands(alloc),
         Call::Due(now) => due_text(alloc, desk.shard.expired(now)),
         Call::Sweep(id, token) => rel_text(alloc, sweep(rt, desk, id, token)),
+        Call::Lapse(now) => lapse_text(rt, alloc, desk.shard.lapse(now)),
         Call::Steps => format!(in alloc; "{}", desk.shard.history().len()),
     }
 }
@@ -437,6 +452,30 @@ const PAST_DEADLINE: [(Call, &str); 14] = [
 #[test]
 fn drops_what_is_past_its_deadline(rt: HostRuntime) {
     check(&rt, rt.alloc(), 2, &PAST_DEADLINE);
+}
+
+const LAPSED: [(Call, &str); 14] = [
+    (Call::Get(1, 1, 0, 0), "lease 1"),
+    (Call::Get(2, 1, 0, 10), "lease 2"),
+    (Call::Lapse(99), "none"),
+    (Call::Lapse(100), "1 1"),
+    (Call::Lapse(109), "none"),
+    // A void set under it dropped it before.
+    (Call::Set(2, 2, "a", 0, 110), "void"),
+    (Call::Lapse(110), "none"),
+    (Call::Get(1, 3, 0, 110), "lease 3"),
+    (Call::Set(1, 3, "b", 0, 120), "stored"),
+    (Call::Get(2, 3, 0, 120), "lease 4"),
+    (Call::Invalidate(2, 4, 130), "granted 5"),
+    (Call::Keep, "released"),
+    // One was used up, and a quarantine ended the other.
+    (Call::Lapse(LATEST), "none"),
+    (Call::Steps, "9"),
+];
+
+#[test]
+fn drops_leases_that_lapsed(rt: HostRuntime) {
+    check(&rt, rt.alloc(), 2, &LAPSED);
 }
 
 const FIRST_DUE: [(Call, &str); 10] = [

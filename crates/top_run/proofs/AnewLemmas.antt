@@ -25,9 +25,9 @@ use Rattle.top_run.proofs.WarmingLemmas.{loaded_is_new, loaded_only}
 
 -- a store that was made anew is as it is named
 pub new_store : (shape : Shape) (rolls : Bool) (store : StoreView) (count start : Option ℕ) (terms : ℕ → Terms) (opening : Tables) (cap : ℕ) (known_rows : Option Tables)
-    (name parts : ℕ) (word : WordView) (before : ℕ → List Step) (begun failed : ℕ) (made : HubParts) → IsAnew store
+    (name parts : ℕ) (word : WordView) (before : ℕ → List Step) (begun failed most : ℕ) (made : HubParts) → IsAnew most store
     → NamesAnew shape rolls store count start terms opening cap known_rows name parts word before begun failed made → IsNewStore begun failed store
-new_store shape rolls store count start terms opening cap known_rows name parts word before begun failed made anew names = record {
+new_store shape rolls store count start terms opening cap known_rows name parts word before begun failed most made anew names = record {
   none = anew.no_log;
   begun_is = sym names.begun_is;
   closed = anew.none_open;

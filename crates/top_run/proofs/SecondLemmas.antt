@@ -31,6 +31,7 @@ use Rattle.run_inputs.specs.Loads.{IsWork}
 use Rattle.shard_dump.specs.declared.rows.DumpRow.{DumpRow}
 use Rattle.shard_dump.specs.Dumps.{dump_of}
 use Rattle.shard_dump.specs.Loads.{loaded_steps}
+use Rattle.core_history.specs.Machine.{log_cap}
 use Rattle.top_run.specs.declared.hubs.Parts.{Parts}
 use Rattle.top_run.specs.declared.runs.Phase.{Phase}
 use Rattle.top_run.specs.declared.dumps.Dumped.{Dumped}
@@ -342,8 +343,8 @@ next_to_load spec left known_rows opening dumps h = record { as_many = h.as_many
 
 -- ---- a store that was made anew, of which only sessions that read have begun since
 
-pub anew_still : (old new : StoreView) → KeepsOn old new → IsAnew old → IsAnew new
-anew_still old new keeps h = record {
+pub anew_still : (most : ℕ) (old new : StoreView) → KeepsOn old new → IsAnew most old → IsAnew most new
+anew_still most old new keeps h = record {
   no_log = keeps.log_is ∙ h.no_log;
   cap_is = keeps.cap_is ∙ h.cap_is;
   none_open = keeps.none_open h.none_open;
@@ -356,7 +357,7 @@ pub half_still : (opening : Tables) (old new : StoreView) (earlier : List Phase)
     → IsHalf opening old earlier spent → IsHalf opening new earlier spent
 half_still opening old new earlier spent keeps h = record {
   only = h.only;
-  anew = anew_still old new keeps h.anew;
+  anew = anew_still log_cap old new keeps h.anew;
   opening_is = keeps.opening_is ∙ h.opening_is;
   spent_is = h.spent_is;
 }

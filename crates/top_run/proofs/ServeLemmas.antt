@@ -4,6 +4,7 @@ use Rattle.std.specs.Prelude.{◌≢◌, false, codes, unwrap_or, IfSome, Option
 use Rattle.std.specs.Global.{Global}
 use Rattle.std.specs.List.{join_with_byte}
 use Rattle.iq_outside.specs.declared.sinks.Sink.{Ghosts as Sinks}
+use Rattle.iq_outside.specs.Outside.{Rose}
 use Rattle.session_client.specs.declared.plans.Shape.{Shape}
 use Rattle.top_run.specs.declared.runs.Status.{Status}
 use Rattle.top_run.specs.declared.runs.Status.TheVariants as status
@@ -113,6 +114,7 @@ pub unserved_short : {W : Type 0} (sinks : Sinks W) (spec : ServeSpec) (begun : 
 unserved_short sinks spec begun sink door ends served is none =
     subst (λ (s : Served). HasServed sinks spec begun s sink sink door door) (sym is) (record {
       unsaved = refl;
+      unfailed = refl;
       attended = unattended_short spec begun (sinks.taken sink) door ends.items none;
       writes = (refl, omega arith);
       doors = (refl, omega arith);
@@ -120,18 +122,19 @@ unserved_short sinks spec begun sink door ends served is none =
 
 -- ---- which ends there are
 
--- the end of a server that began
-pub served_ended : (ended : Status) (spec : ServeSpec) (course : Course) → IsServed spec ended course → ServeEnded ended spec course
-served_ended status.Done spec course h = h
-served_ended status.Usage spec course h = h.attended.is_text
-served_ended (status.Script row kind) spec course h = h.attended.is_text
-served_ended status.ReadFault spec course h = h.attended.is_text
-served_ended status.WriteFault spec course h = h
-served_ended status.DoorFault spec course h = h
-served_ended status.FileFault spec course h = h
-served_ended status.KeepFault spec course h = absurd h.attended.is_text
-served_ended (status.Spent shard) spec course h = h.attended.is_text
-served_ended status.Memory spec course h = inr h
+-- the end of a server that began, where a call of the keeper failed if it is a store fault
+pub served_ended : (ended : Status) (spec : ServeSpec) (course : Course)
+    → (ended ≡ status.KeepFault → Rose course.before.keeps_failed course.after.keeps_failed) → IsServed spec ended course → ServeEnded ended spec course
+served_ended status.Done spec course rose h = h
+served_ended status.Usage spec course rose h = h.attended.is_text
+served_ended (status.Script row kind) spec course rose h = h.attended.is_text
+served_ended status.ReadFault spec course rose h = h.attended.is_text
+served_ended status.WriteFault spec course rose h = h
+served_ended status.DoorFault spec course rose h = h
+served_ended status.FileFault spec course rose h = h
+served_ended status.KeepFault spec course rose h = (rose refl, inr h)
+served_ended (status.Spent shard) spec course rose h = h.attended.is_text
+served_ended status.Memory spec course rose h = inr h
 
 -- it is none for want of a command, nor at a read
 pub no_usage : (begun : Begun) (ended : Status) (lines : ℕ) (printed : List ℕ) → IsServedText begun ended lines printed → ended ≡ status.Usage → ⊥
@@ -205,7 +208,8 @@ same_server found spec status.ReadFault course same h = h
 same_server found spec status.WriteFault course same h = same_served found spec status.WriteFault course same h
 same_server found spec status.DoorFault course same h = same_served found spec status.DoorFault course same h
 same_server found spec status.FileFault course same h = same_served found spec status.FileFault course same h
-same_server found spec status.KeepFault course same h = h
+same_server found spec status.KeepFault course same (rose, inl h) = (rose, inl h)
+same_server found spec status.KeepFault course same (rose, inr h) = (rose, inr (same_served found spec status.KeepFault course same h))
 same_server found spec (status.Spent shard) course same h = h
 same_server found spec status.Memory course same (inl h) = inl h
 same_server found spec status.Memory course same (inr h) = inr (same_served found spec status.Memory course same h)

@@ -390,13 +390,13 @@ make_serving spec store ready count start terms named_opening cap named_rows nam
 
 -- ---- the store of a server, once its cache has begun
 
-pub begun_anew : (given store : StoreView) → given.ledger ≡ opened given.ledger.opening log_cap → AsksOn given store
-    → ForSome store.known_rows (λ known. known ≡ rows_of store.ledger) → IsAnew store
-begun_anew given store new asks told =
+pub begun_anew : (most : ℕ) (given store : StoreView) → given.ledger ≡ opened given.ledger.opening most → AsksOn given store
+    → ForSome store.known_rows (λ known. known ≡ rows_of store.ledger) → IsAnew most store
+begun_anew most given store new asks told =
     let no_log : store.ledger.log ≡ [] = asks.log_is ∙ ap (λ (l : Ledger). l.log) new in
     record {
       no_log = no_log;
       cap_is = asks.cap_is ∙ ap (λ (l : Ledger). l.cap) new;
-      none_open = asks.none_open (opened_is_new given 0 0 log_cap new refl refl).closed;
+      none_open = asks.none_open (opened_is_new given 0 0 most new refl refl).closed;
       told_is = subst (λ (log : List Commit). ForSome store.known_rows (λ known. known ≡ rows_after store.ledger.opening log)) no_log told;
     }

@@ -24,11 +24,12 @@ use Rattle.shard_lock.specs.Names.{AreAll, AreLegal, IsNamed}
 use Rattle.run_audit.specs.declared.findings.Finding.{Finding}
 use Rattle.run_audit.specs.Findings.{histories_in, AreNumbered, AreWhole}
 use Rattle.run_inputs.specs.declared.loads.WorkSpec.{WorkSpec}
+use Rattle.sql_keeper.specs.Log.{keeps_log}
 use Rattle.top_run.specs.declared.plays.Stop.{Stop}
 use Rattle.top_run.specs.declared.plays.Stop.TheVariants as stop
 use Rattle.top_run.specs.declared.runs.Status.TheVariants as status
 use Rattle.top_run.specs.Runs.{Held, Tells, Left, IsOpened, kept_in, is_read_fault, is_write_fault}
-use Rattle.top_run.specs.Works.{work_shape, hub_terms, has_spent, first_spent, work_status, end_status, at_write_failed, IsSummarized, IsHalted, IsLeft, IsKept, IsSummed, WorkEnded}
+use Rattle.top_run.specs.Works.{work_shape, hub_terms, has_spent, first_spent, work_status, end_status, at_write_failed, IsSummarized, IsHalted, IsLeft, IsKept, IsSummed, WorkEnded, most_commits}
 
 -- ---- what the shards of a hub are
 
@@ -150,9 +151,16 @@ same_of_none start failed faults is since = since.none (grind (arith, is))
 abbrev pub left_of : StoreView → List (List Step) → Left
 left_of store histories = record { opening = Some store.ledger.opening; log = store.ledger.log; histories = histories }
 
+-- a store that takes as many commits as a load keeps its log, which is no longer than that
+pub cap_kept : (cap : ℕ) → cap ≡ log_cap → keeps_log cap ≡ true
+cap_kept cap is = ap keeps_log is
+
+pub cap_most : (cap : ℕ) → cap ≡ log_cap → cap ≤ most_commits false
+cap_most cap is = omega (arith, is)
+
 pub is_kept : (shape : Shape) (rolls : Bool) (held : Held) (before after : Tells) (store : StoreView) (histories : List (List Step)) (start : Option ℕ)
     → after.rows ≡ store.known_rows → after.keeps_failed ≡ store.faults → start ≡ Some before.keeps_failed
-    → length store.ledger.log ≤ store.ledger.cap → store.ledger.cap ≡ log_cap
+    → length store.ledger.log ≤ store.ledger.cap → store.ledger.cap ≤ most_commits rolls
     → ForSome store.known_rows (λ known. known ≡ rows_of store.ledger) → FailedSince start store.ledger.failed store.faults
     → ((place : ℕ) (steps : List Step) → slice_get histories place ≡ Some steps → IsLeft shape rolls place steps) → length histories ≡ shape.shards
     → IsOpened held shape store.ledger.opening after.rows
@@ -161,7 +169,7 @@ pub is_kept : (shape : Shape) (rolls : Bool) (held : Held) (before after : Tells
 is_kept shape rolls held before after store histories start rows count starts short cap same since legal many opened fresh covered = record {
   opening_is = refl;
   opened = opened;
-  short = subst (λ (n : ℕ). length store.ledger.log ≤ n) cap short;
+  short = omega (arith, short, cap);
   rows_are = subst (λ (r : Option Tables). ForSome r (λ t. t ≡ rows_of store.ledger)) (sym rows) same;
   as_many = many;
   legal = legal;

@@ -296,6 +296,11 @@ abbrev pub is_file_fault : Status → Bool
 is_file_fault status.FileFault = true
 is_file_fault other = false
 
+-- Whether a run ended at a call of its keeper that failed.
+abbrev pub is_keep_fault : Status → Bool
+is_keep_fault status.KeepFault = true
+is_keep_fault other = false
+
 -- Whether a run ended at a door that failed.
 abbrev pub is_door_fault : Status → Bool
 is_door_fault status.DoorFault = true

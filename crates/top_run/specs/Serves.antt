@@ -18,7 +18,7 @@ use Rattle.top_run.specs.declared.serves.ColdCause.TheVariants as why
 use Rattle.top_run.specs.Begins.{Beginning, BeginsAs, FailOnlyTold, FilesSeen}
 use Rattle.conn_server.specs.declared.ends.LineEnd.{LineEnd}
 use Rattle.run_words.specs.declared.words.ServeSpec.{ServeSpec}
-use Rattle.top_run.specs.Runs.{Held, Tells, Left, left_at, Prints, CountsWhere, is_write_fault, is_door_fault, is_file_fault, IsUnasked, IsNotStarted}
+use Rattle.top_run.specs.Runs.{Held, Tells, Left, left_at, Prints, CountsWhere, is_write_fault, is_door_fault, is_file_fault, is_keep_fault, IsUnasked, IsNotStarted}
 use Rattle.run_words.specs.Words.{most_served}
 use Rattle.door_workers.specs.Attending.{GivesBack, HaveEnds, IsEnough, count_up_by}
 use Rattle.door_workers.specs.DoorSeen.{DoorSeen}
@@ -73,12 +73,14 @@ abbrev pub IsUntold : Begun → ℕ → List ℕ → Type 0
 IsUntold begun lines printed = ((lines ≡ 0) × (printed ≡ [])) ⊎ (printed ≡ ready_text begun)
 
 -- What was written at such an end, where so many lines were served: all of it, the first bytes of it at a write that failed, and else
--- what stands before the last line. Where the cache's file wasn't written, or memory ran out for its text, all of it was.
+-- what stands before the last line. Where the cache's file wasn't written, or a call of the keeper failed or memory ran out for its
+-- text, all of it was.
 abbrev pub IsServedText : Begun → Status → ℕ → List ℕ → Type 0
 IsServedText begun status.Done lines printed = printed ≡ serve_text begun lines
 IsServedText begun status.WriteFault lines printed = (more : List ℕ) × (printed ++ more ≡ serve_text begun lines)
 IsServedText begun status.DoorFault lines printed = IsUntold begun lines printed
 IsServedText begun status.FileFault lines printed = (begun ≢ cache.New) × (printed ≡ serve_text begun lines)
+IsServedText begun status.KeepFault lines printed = (begun ≢ cache.New) × (printed ≡ serve_text begun lines)
 IsServedText begun status.Memory lines printed = IsUntold begun lines printed ⊎ ((begun ≢ cache.New) × (printed ≡ serve_text begun lines))
 IsServedText begun other lines printed = ⊥
 
@@ -104,9 +106,11 @@ pub record IsAttended (spec : ServeSpec) (begun : Begun) (ended : Status) (taken
   pub prints : Prints taken_old taken_new printed written
 
 -- The lines of a server were served so, from a door that told this before and this after, and with this sink handed in and back:
--- what is so of sink, door and lines, and each count of faults rose exactly where that failed.
+-- what is so of sink, door and lines, and each count of faults rose exactly where that failed. It doesn't end for
+-- the cache's file or its text.
 pub record HasServed {W : Type 0} (sinks : Sinks W) (spec : ServeSpec) (begun : Begun) (served : Served) (old new : W) (before after : DoorSeen) : Type 0 where
   pub unsaved : is_file_fault served.status ≡ false
+  pub unfailed : is_keep_fault served.status ≡ false
   pub attended : IsAttended spec begun served.status (sinks.taken old) (sinks.taken new) before after served.ends.items served.written
   pub writes : CountsWhere sinks.faults (is_write_fault served.status) old new
   pub doors : CountsWhere (λ (door : DoorSeen). door.faults) (is_door_fault served.status) before after
@@ -177,7 +181,8 @@ pub record IsUnserved (course : Course) : Type 0 where
   pub no_ends : course.ends ≡ []
   pub door : course.door_after ≡ course.door_before
 
--- What is so at an end of a server.
+-- What is so at an end of a server. A call of the keeper that failed ends it where the keeper didn't start, and where the server has
+-- served and the store was asked for its cache.
 abbrev pub ServeEnded : Status → ServeSpec → Course → Type 0
 ServeEnded status.Done spec course = IsServed spec status.Done course
 ServeEnded status.WriteFault spec course = IsServed spec status.WriteFault course
@@ -185,9 +190,9 @@ ServeEnded status.DoorFault spec course = IsServed spec status.DoorFault course
 ServeEnded status.FileFault spec course = IsServed spec status.FileFault course
 ServeEnded status.KeepFault spec course =
     Rose course.before.keeps_failed course.after.keeps_failed
-    × (course.after.rows ≡ course.before.rows)
+    × (((course.after.rows ≡ course.before.rows)
     × IsNotStarted course.before course.after course.left course.written
-    × IsUnserved course
+    × IsUnserved course) ⊎ IsServed spec status.KeepFault course)
 ServeEnded status.Memory spec course =
     (IsUnasked course.before course.after × IsNotStarted course.before course.after course.left course.written × IsUnserved course)
     ⊎ IsServed spec status.Memory course

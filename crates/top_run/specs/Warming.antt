@@ -235,10 +235,11 @@ pub record HasRooms (shards : List ShardView) (histories : Vec (Vec Step Global)
 abbrev pub left_in : List Phase → Left
 left_in phases = first_of (map phase_left phases)
 
--- A store was made anew: no commit is in its log, and no session is open. Where its keeper tells its rows, they are its opening rows.
-pub record IsAnew (store : StoreView) : Type 0 where
+-- A store was made anew, which takes so many commits: none is in its log, and no session is open. Where its keeper tells its rows, they are
+-- its opening rows.
+pub record IsAnew (most : ℕ) (store : StoreView) : Type 0 where
   pub no_log : store.ledger.log ≡ []
-  pub cap_is : store.ledger.cap ≡ log_cap
+  pub cap_is : store.ledger.cap ≡ most
   pub none_open : (who : Sid) → is_open who store.ledger.sessions ≡ false
   pub told_is : ForSome store.known_rows (λ known. known ≡ store.ledger.opening)
 
@@ -246,7 +247,7 @@ pub record IsAnew (store : StoreView) : Type 0 where
 -- least shard that is spent.
 pub record IsHalf (opening : Tables) (store : StoreView) (earlier : List Phase) (spent : Option ℕ) : Type 0 where
   pub only : map phase_left earlier ≡ left_in earlier ∷ []
-  pub anew : IsAnew store
+  pub anew : IsAnew log_cap store
   pub opening_is : store.ledger.opening ≡ rows_after opening (left_in earlier).log
   pub spent_is : spent ≡ first_spent (left_in earlier).histories
 
@@ -332,7 +333,7 @@ pub record NamesAnew (shape : Shape) (rolls : Bool) (store : StoreView) (count s
     (known_rows : Option Tables) (name parts : ℕ) (word : WordView) (before : ℕ → List Step) (begun failed : ℕ) (made : HubParts) : Type 0 where
   pub terms_are : (place : ℕ) → terms place ≡ hub_terms shape rolls place
   pub opening_is : store.ledger.opening ≡ opening
-  pub cap_is : cap ≡ log_cap
+  pub cap_is : cap ≡ store.ledger.cap
   pub told_is : known_rows ≡ store.known_rows
   pub start_is : start ≡ count
   pub ledger : (made.ledger.name ≡ name) × (made.ledger.parts ≡ parts)

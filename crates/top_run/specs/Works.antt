@@ -14,7 +14,7 @@ use Rattle.key_shard.specs.Past.{Terms, draws}
 use Rattle.sql_keeper.specs.declared.stores.Commit.{Commit}
 use Rattle.sql_keeper.specs.Faults.{HaveFailed}
 use Rattle.sql_keeper.specs.Fresh.{Covered, Fresh}
-use Rattle.sql_keeper.specs.Log.{rows_after}
+use Rattle.sql_keeper.specs.Log.{rows_after, no_cap}
 use Rattle.sql_keeper.specs.Stores.{StoreView}
 use Rattle.session_client.specs.declared.plans.Plan.{Plan}
 use Rattle.session_client.specs.declared.plans.Shape.{Shape}
@@ -215,6 +215,11 @@ abbrev pub IsLeft : Shape → Bool → ℕ → List Step → Type 0
 IsLeft shape false place steps = Legal (terms_of shape place) steps
 IsLeft shape true place steps = AreLast (hub_terms shape true place) steps
 
+-- How many commits a run over a hub leaves at most: where the shards roll, as many as a number can count.
+abbrev pub most_commits : Bool → ℕ
+most_commits false = log_cap
+most_commits true = no_cap
+
 -- What a run over a hub that began leaves: the rows that it began with, which are those of the place, a log that isn't too long,
 -- and of each shard a legal history, or where the shards roll the last steps of one. Where the keeper tells its rows, they are
 -- the opening rows after the log. So many of the keeper's calls failed since its count of faults was as before the run. Of whole
@@ -222,7 +227,7 @@ IsLeft shape true place steps = AreLast (hub_terms shape true place) steps
 pub record IsKept (shape : Shape) (rolls : Bool) (held : Held) (before after : Tells) (left : Left) (opening : Tables) (failed : ℕ) : Type 0 where
   pub opening_is : left.opening ≡ Some opening
   pub opened : IsOpened held shape opening after.rows
-  pub short : length left.log ≤ log_cap
+  pub short : length left.log ≤ most_commits rolls
   pub rows_are : ForSome after.rows (λ known. known ≡ rows_after opening left.log)
   pub as_many : length left.histories ≡ shape.shards
   pub legal : (place : ℕ) (history : List Step) → slice_get left.histories place ≡ Some history → IsLeft shape rolls place history

@@ -10,7 +10,7 @@ use crate::plays::{Stop, Tally};
 use crate::runs::{RunEnd, Status};
 use core_history::Core;
 use key_shard::{Shard, Step};
-use sql_keeper::{KeepFault, Keeper};
+use sql_keeper::{CommitLog, KeepFault, Keeper};
 use std::alloc::Global;
 
 /// The end of a run before it began.
@@ -28,7 +28,7 @@ pub(crate) fn not_started<K: Keeper>(alloc: Global, status: Status, keeper: K) -
         status,
         keeper,
         opening: None,
-        log: Vec::new(alloc),
+        log: CommitLog::new(alloc, true),
         histories: Vec::new(alloc),
         ends: Vec::new(alloc),
         earlier: Vec::new(alloc),

@@ -28,7 +28,7 @@ use std::sync::ledger::Blank;
 /// How long a lease of a running hub lives, in milliseconds.
 pub(crate) const LIFE: u64 = 10_000;
 
-/// How many commits a store takes.
+/// How many commits the store of a load takes.
 pub(crate) const CAP: u64 = 8_000_000;
 
 /// What a hub is made of beside its store: the shards, a ledger with a part for each, and a word with its

@@ -18,7 +18,7 @@ use crate::runs::{Phase, RunEnd, Status};
 use crate::works::first_spent;
 use key_shard::{Shard, Step};
 use rows_model::{Memory, Rows};
-use sql_keeper::{Commit, Keeper, Start, Store};
+use sql_keeper::{CommitLog, Keeper, Start, Store};
 use std::alloc::Global;
 
 /// What the first load left: the store and its shards, and room for the histories and for all of it.
@@ -83,7 +83,7 @@ pub(crate) fn made_anew<K: Keeper, N: Start>(first: First<K, N>) -> Result<Half<
 fn with_phase(
     room: Vec<Phase>,
     opening: Rows,
-    log: Vec<Commit>,
+    log: CommitLog,
     shards: Vec<Shard>,
     histories: Vec<Vec<Step>>,
 ) -> Vec<Phase>

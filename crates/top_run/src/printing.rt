@@ -1,8 +1,9 @@
 // What is printed, and how much of it.
 ghost use Rattle.std.specs.Prelude.{◌≡◌, ◌≤◌, ◌++◌, ◌∷◌, [], ℕ, List, Option, Result, OnOk, OnErr, IfOk, Err, count_by, decimal};
 ghost use Rattle.iq_outside.specs.Outside.{Rose};
-ghost use Rattle.core_history.specs.Cores.{shards_in, histories_in};
+ghost use Rattle.core_history.specs.Cores.{Origin, HasKept, shards_in, histories_in};
 ghost use Rattle.core_history.specs.Lines.{end_line, count_in, is_hit, is_stored, is_again};
+ghost use Rattle.core_history.specs.Machine.{Move};
 ghost use Rattle.top_run.specs.Runs.{Prints};
 
 use core_history::Core;
@@ -39,10 +40,11 @@ pub(crate) fn print<W: Sink>(sink: &mut W, written: &mut u64, bytes: &[u8]) -> R
 }
 
 /// The last line: how many transactions were committed, and how many hits, stored values and refused
-/// gets the histories have.
+/// gets the histories have. It is so of a core that has kept all of it, as each does.
 pub(crate) fn last_line<K: Keeper>(alloc: Global, core: &Core<K>) -> Result<Vec<u8>, Memory>
     requires { shards_in core.now ≤ 64 }
-    ensures { IfOk result (λ text.
+    ensures { (origin : Origin) (moves : List Move) → HasKept core.now origin moves →
+        IfOk result (λ text.
         text.items ≡ end_line core.now.store.ledger.log (histories_in core.now)) }
 {
     let counts = counts_in(core);

@@ -30,7 +30,7 @@ use key_shard::Step;
 use rows_model::Rows;
 use run_inputs::{Script, ScriptFault, ScriptKind};
 use run_words::{Words, WordsFault, read_words};
-use sql_keeper::{Commit, Keeper, NoStore, Place};
+use sql_keeper::{CommitLog, Keeper, NoStore, Place};
 use std::alloc::Global;
 use std::sync::Wait;
 use std::thread::Threads;
@@ -71,7 +71,7 @@ pub enum Status {
 #[derive(Drop)]
 pub struct Phase {
     pub opening: Rows,
-    pub log: Vec<Commit>,
+    pub log: CommitLog,
     pub histories: Vec<Vec<Step>>,
 }
 
@@ -86,7 +86,7 @@ pub struct RunEnd<K> {
     /// The rows that the run began with, or `None` where it never began.
     pub opening: Option<Rows>,
     /// The transactions that were committed, the earliest first.
-    pub log: Vec<Commit>,
+    pub log: CommitLog,
     /// Each shard's history, or none where nothing was run. A server's shards roll: of each there are the
     /// steps that it has in memory at the end, the last of its history.
     pub histories: Vec<Vec<Step>>,

@@ -4,12 +4,12 @@ ghost use Rattle.std.specs.Bool.{IsFalse};
 ghost use Rattle.std.specs.Option.{ForSome};
 ghost use Rattle.iq_outside.specs.Outside.{Rose};
 ghost use Rattle.rows_model.specs.Rows.{Tables};
-ghost use Rattle.core_history.specs.Machine.{log_cap};
+ghost use Rattle.sql_keeper.specs.Log.{no_cap};
 ghost use Rattle.sql_keeper.specs.Stores.{opened};
 ghost use Rattle.shard_lock.specs.Names.{AreAll, AreLegal, IsNamedStore};
 ghost use Rattle.bound_hub.specs.Ties.{IsNewStore};
 ghost use Rattle.top_run.specs.Ready.{IsServeReady, MakeHub, NamesParts};
-ghost use Rattle.top_run.specs.Runs.{Held, Input, Prints, moment, seen, held_at, IsOpened, RoseWhere, CountsWhere, left_at, is_read_fault, is_write_fault, is_door_fault, is_file_fault};
+ghost use Rattle.top_run.specs.Runs.{Held, Input, Prints, moment, seen, held_at, IsOpened, RoseWhere, CountsWhere, left_at, is_read_fault, is_write_fault, is_door_fault, is_file_fault, is_keep_fault};
 ghost use Rattle.top_run.specs.Begins.{FilesSeen, HasBegun, beginning_of, files_seen};
 ghost use Rattle.top_run.specs.Saves.{SavesAt};
 ghost use Rattle.top_run.specs.Serves.{serve_shape, serve_rolls, begun_line, cold_words, ready_text, served_line, BeginsBy, IsServedText, HasServed, course_of, ServeEnded};
@@ -23,7 +23,7 @@ ghost use Rattle.top_run.specs.declared.serves.Begun.{Begun};
 ghost use Rattle.std.specs.List.{join_with_byte};
 
 use crate::endings::{not_started, start_status};
-use crate::hubs::{CAP, HubParts, LIFE, Parts, desks_over, ended_hub, parts_for};
+use crate::hubs::{HubParts, LIFE, Parts, desks_over, ended_hub, parts_for};
 use crate::printing::print;
 use crate::runs::{RunEnd, Status};
 use crate::saves::saved;
@@ -42,7 +42,7 @@ use rows_model::Memory;
 use run_words::ServeSpec;
 use session_client::{Desk, Shape};
 use shard_lock::StartOf;
-use sql_keeper::{Keeper, NoStore, Place, Start, Store};
+use sql_keeper::{Keeper, NO_CAP, NoStore, Place, Start, Store};
 use std::alloc::Global;
 use std::marker::Brand;
 use std::sync::Wait;
@@ -100,7 +100,7 @@ struct Server<'a, C, G, R> {
 /// last of its history.
 ///
 /// Where a file is named for the cache, it begins with what is right in that, and a line tells so. Once all is
-/// done the cache is written there.
+/// done the store is asked for each entry, and those that are right are written there. No log is kept in memory.
 pub(crate) fn serve<
     W: Sink,
     K: Keeper + Send,
@@ -150,7 +150,7 @@ pub(crate) fn serve<
     let Ok(ready) = ready_for(alloc, spec) else {
         return not_started(alloc, Status::Memory, keeper);
     };
-    match Store::new(alloc, keeper, place, spec.members, CAP) {
+    match Store::new(alloc, keeper, place, spec.members, NO_CAP) {
         Ok(store) => {
             let server = Server {
                 rt,
@@ -218,7 +218,7 @@ fn serve_begun<
 ) -> RunEnd<K>
     requires serve { IsServe server.now.spec.now }
     requires start { N.count ≡ Some store.faults }
-    requires new { store.ledger ≡ opened store.ledger.opening log_cap }
+    requires new { store.ledger ≡ opened store.ledger.opening no_cap }
     requires ready { IsServeReady server.now.spec.now
         (hub_terms (serve_shape server.now.spec.now) serve_rolls) ready }
     ensures ended { (unread : Input) (rows : Option Tables) (held : Held) →
@@ -294,7 +294,7 @@ fn serve_store<
     door: &mut D,
 ) -> RunEnd<K>
     requires serve { IsServe server.now.spec.now }
-    requires anew { IsAnew store }
+    requires anew { IsAnew no_cap store }
     requires ready { IsServeReadyAnew server.now.spec.now
         store.known_rows store.ledger.opening ready }
     requires named { NamesAnew (serve_shape server.now.spec.now) serve_rolls store N.count H.start
@@ -332,7 +332,7 @@ fn serve_store<
     let Ready { parts, ends, begun } = ready;
     let Parts { hub, histories } = parts;
     let Ran {
-        store,
+        mut store,
         shards,
         served,
     } = serve_over_hub::<H, _, _, _, _, _, _>(
@@ -349,8 +349,10 @@ fn serve_store<
         ends,
         written,
     } = served;
+    // Its count of failed calls is one of its type.
+    let _ = store.failed();
     let path = &server.spec.warm;
-    let status = saved(alloc, file, path, status, shards.as_slice(), store.log());
+    let status = saved(alloc, file, path, status, &mut store, shards.as_slice());
     ended_hub(
         status,
         store,
@@ -589,6 +591,7 @@ fn open_up<W: Sink, D: Door>(
         (printed ≢ [] → D.bound door.new ≡ Some addr.now) × IsServedText begun status 0 printed ×
         Prints (W.taken sink.old) (W.taken sink.new) printed written.new) }
     ensures unsaved { IfErr result (λ status. IsFalse (is_file_fault status)) }
+    ensures unfailed { IfErr result (λ status. IsFalse (is_keep_fault status)) }
     ensures unbound { IfErr result (λ status. status ≡ Status.DoorFault →
         Prints (W.taken sink.old) (W.taken sink.new) [] written.new) }
     ensures no_line { D.lines door.new ≡ D.lines door.old }
@@ -620,6 +623,7 @@ fn close_up<W: Sink>(alloc: Global, sink: &mut W, written: &mut u64, lines: u64)
         (printed : List ℕ) × IsServedText begun result lines printed ×
         Prints taken (W.taken sink.new) printed written.new }
     ensures unsaved { IsFalse (is_file_fault result) }
+    ensures unfailed { IsFalse (is_keep_fault result) }
     ensures writes { RoseWhere W.faults (is_write_fault result) sink.old sink.new }
     ensures no_door_fault { IsFalse (is_door_fault result) }
     ensures sink_never_falls { W.faults sink.old ≤ W.faults sink.new }

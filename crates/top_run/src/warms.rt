@@ -249,7 +249,7 @@ fn load_second<N: Start, W: Sink, K: Keeper + Send, C: Clock, G: Gate, R: Thread
     written: u64,
 ) -> RunEnd<K>
     requires work { IsWork warming.now.spec.now }
-    requires anew { IsAnew half.store }
+    requires anew { IsAnew log_cap half.store }
     requires never_fell { ForSome N.count (λ start. start ≤ half.store.faults) }
     requires to_load { AreToLoad warming.now.spec.now (left_in half.earlier.items)
         half.store.known_rows half.store.ledger.opening dumps.items }
@@ -327,7 +327,7 @@ fn run_second<
     written: u64,
 ) -> RunEnd<K>
     requires work { IsWork warming.now.spec.now }
-    requires anew { IsAnew half.store }
+    requires anew { IsAnew log_cap half.store }
     requires never_fell { ForSome N.count (λ start. start ≤ half.store.faults) }
     requires ready { IsReadyAnew warming.now.spec.now half.store.known_rows
         half.store.ledger.opening (rows_left (left_in half.earlier.items)) ready }

@@ -4,7 +4,7 @@ use Rattle.top_run.proofs.PrintLemmas.{end_line_is}
 use Rattle.top_run.proofs.printing.last_line.Goals as goal
 
 pub returns : goal.returns
-returns g c =
+returns g c = λ origin moves kept.
     rw (
       end_line_is c.args.core.now.store.ledger.log (histories_in c.args.core.now),
       c.in_ok-push.ensures.items,
@@ -19,5 +19,5 @@ returns g c =
       c.counts_in-counts.ensures.hits,
       c.counts_in-counts.ensures.stores,
       c.counts_in-counts.ensures.agains,
-      c.log.ensures,
+      c.log.ensures.items origin moves kept,
     ) refl

@@ -52,7 +52,7 @@ returns-in_err-print-clause-some g c =
     (record { written = c.print.new.written; faulted = c.play_acts.new.tally.faulted })} c.from_residual-in_err-print.result
     (stopped_at_end c.play_acts.new.core origin c.args.script.acts taken taken' taken'' c.play_acts.new.tally
     (record { written = c.print.new.written; faulted = c.play_acts.new.tally.faulted }) cut.0 cut.1 stands
-    (cut.2 ∙ c.as_slice.ensures.value ∙ c.in_ok-line.ensures) cut.3)
+    (cut.2 ∙ c.as_slice.ensures.value ∙ c.in_ok-line.ensures _ _ stands.at.kept) cut.3)
 
 pub returns-clause-all : goal.returns-clause-all
 returns-clause-all g c =
@@ -62,4 +62,4 @@ returns-clause-all g c =
     c.requires.new c.requires.nothing c.into_acts.ensures c.in_ok-play_acts.ensures.all in
     finished c.play_acts.new.core _ c.args.script.acts taken taken' (g.W.Sink.taken c.print.new.sink) c.play_acts.new.tally
     (record { written = c.print.new.written; faulted = c.play_acts.new.tally.faulted }) c.as_slice.result.now stands
-    (c.as_slice.ensures.value ∙ c.in_ok-line.ensures) (c.in_ok-print.ensures.all taken _ stands.prints) refl
+    (c.as_slice.ensures.value ∙ c.in_ok-line.ensures _ _ stands.at.kept) (c.in_ok-print.ensures.all taken _ stands.prints) refl

@@ -20,7 +20,7 @@ shards_begun-shards-requires-clause-log g c = rw c.named-store.ensures (ap (λ (
 
 pub serve_store-requires-clause-anew : goal.serve_store-requires-clause-anew
 serve_store-requires-clause-anew g c κs within =
-    begun_anew c.args.store c.shards_begun-shards.new.store c.requires.new (rw c.named-store.ensures at c.shards_begun-shards.ensures.asks_on) c.log.ensures.told
+    begun_anew _ c.args.store c.shards_begun-shards.new.store c.requires.new (rw c.named-store.ensures at c.shards_begun-shards.ensures.asks_on) c.log.ensures.told
 
 pub serve_store-requires-clause-ready : goal.serve_store-requires-clause-ready
 serve_store-requires-clause-ready g c κs within =

@@ -1,5 +1,4 @@
 use Rattle.std.proofs.Common.{length}
-use Rattle.core_history.specs.Machine.{log_cap}
 use Rattle.top_run.specs.Serves.{serve_shape, serve_rolls}
 use Rattle.top_run.specs.Works.{hub_terms}
 use Rattle.top_run.specs.Warming.{before_of}
@@ -10,7 +9,7 @@ abbrev pub ghosts-serve_store-H-HubName : goal.ghosts-serve_store-H-HubName
 ghosts-serve_store-H-HubName g a = record {
   terms = hub_terms (serve_shape a.server.now.spec.now) serve_rolls;
   opening = a.store.ledger.opening;
-  cap = log_cap;
+  cap = a.store.ledger.cap;
   known_rows = a.store.known_rows;
   start = g.N.Start.count;
 }

@@ -15,6 +15,7 @@ returns-in-Err-clause-served g c =
     let tells = seen_at g.D.Door.bound g.D.Door.lines g.D.Door.faults g.D.Door.ended g.D.Door.closed in
     record {
       unsaved = c.in-Err.ensures.unsaved;
+      unfailed = c.in-Err.ensures.unfailed;
       attended = rw c.requires.none
           (unattended c.args.server.now.spec.now c.args.begun c.in-Err.status (g.W.Sink.taken c.args.sink.now) (g.W.Sink.taken c.open_up.new.sink)
           (tells c.args.door.now) (tells c.open_up.new.door) halted.0 c.open_up.new.written

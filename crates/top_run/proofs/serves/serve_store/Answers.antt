@@ -1,20 +1,23 @@
-use Rattle.std.proofs.Common.{ℕ, Option, ◌≡◌, ◌≤◌, [], length, refl, sym, subst, ◌∙◌, arith}
+use Rattle.std.proofs.Common.{ℕ, Option, ◌≡◌, ◌≤◌, ◌-◌, ◌^◌, [], length, refl, sym, ap, subst, ◌∙◌, arith}
 use Rattle.std.specs.Prelude.{◌≢◌, false, IsSome}
 use Rattle.std.specs.Option.{ForSome}
 use Rattle.rows_model.specs.Rows.{Tables}
 use Rattle.std.proofs.lemmas.List.{length-map}
 use Rattle.key_shard.specs.Shards.{kept_of}
-use Rattle.top_run.specs.Runs.{CountsWhere, moment, IsOpened, kept_in, is_read_fault, is_write_fault, is_door_fault}
+use Rattle.sql_keeper.specs.Faults.{Counts}
+use Rattle.sql_keeper.specs.Log.{no_cap}
+use Rattle.sql_keeper.specs.Stores.{Ledger, rows_of}
+use Rattle.top_run.specs.Runs.{CountsWhere, moment, IsOpened, kept_in, is_read_fault, is_write_fault, is_door_fault, is_keep_fault}
 use Rattle.top_run.specs.Begins.{beginning_of, files_seen}
 use Rattle.top_run.specs.Serves.{serve_shape, serve_rolls, Course, beginning_in}
 use Rattle.door_workers.specs.Attending.{seen_at}
 use Rattle.top_run.proofs.KeepLemmas.{opened_since}
 use Rattle.top_run.specs.declared.runs.Status.{Status}
 use Rattle.top_run.specs.declared.runs.Status.TheVariants as status
-use Rattle.top_run.specs.Warming.{AreRight}
+use Rattle.top_run.specs.Saves.{EndsSaved}
 use Rattle.top_run.proofs.AnewLemmas.{new_store}
 use Rattle.top_run.proofs.BeginLemmas.{begins_still}
-use Rattle.top_run.proofs.SaveLemmas.{attended_saved, by_end, ends_as, rooms_of, saves_at}
+use Rattle.top_run.proofs.SaveLemmas.{attended_saved, by_end, called_more, called_rows, ends_as, rooms_of, rose_since, saves_at, still_named}
 use Rattle.top_run.proofs.WarmStartLemmas.{make_serving}
 use Rattle.top_run.proofs.WorkLemmas.{last_of, left_of, is_kept, numbered_of}
 use Rattle.top_run.proofs.ServeLemmas.{served_ended, no_usage, no_read}
@@ -29,11 +32,12 @@ serve_over_hub-store-requires-clause-parts g c =
 pub serve_over_hub-store-requires-clause-new : goal.serve_over_hub-store-requires-clause-new
 serve_over_hub-store-requires-clause-new g c =
     λ κs outlives. rw c.renamed.ensures
-    (new_store (serve_shape c.args.server.now.spec.now) serve_rolls c.args.store _ _ _ _ _ _ _ _ _ _ _ _ _ c.requires.anew c.requires.named)
+    (new_store (serve_shape c.args.server.now.spec.now) serve_rolls c.args.store _ _ _ _ _ _ _ _ _ _ _ _ _ _ c.requires.anew c.requires.named)
 
 pub returns-clause-ended : goal.returns-clause-ended
 returns-clause-ended g c = λ unread rows start held first starts opens begun.
-    let store = c.serve_over_hub-store.result.store in
+    let ran = c.serve_over_hub-store.result.store in
+    let store = c.saved-status.new.store in
     let shards = c.serve_over_hub-store.result.shards.items in
     let served = c.serve_over_hub-store.result.served in
     let spec = c.args.server.now.spec.now in
@@ -41,7 +45,9 @@ returns-clause-ended g c = λ unread rows start held first starts opens begun.
     let tells = seen_at g.D.Door.bound g.D.Door.lines g.D.Door.faults g.D.Door.ended g.D.Door.closed in
     let before = moment unread (g.W.Sink.taken c.args.sink.now) (g.W.Sink.faults c.args.sink.now) rows start in
     let after = moment unread (g.W.Sink.taken c.serve_over_hub-store.new.sink) (g.W.Sink.faults c.serve_over_hub-store.new.sink) store.known_rows store.faults in
-    let named = c.serve_over_hub-store.ensures.store in
+    let was_named = c.serve_over_hub-store.ensures.store in
+    let named = still_named _ _ _ _ ran store (is_keep_fault c.saved-status.result) c.saved-status.ensures.ledger c.saved-status.ensures.tells
+    c.saved-status.ensures.keeper_never_falls was_named in
     let before_now : IsSome store.known_rows → IsSome c.args.store.known_rows = λ some.
     subst (λ (r : Option Tables). IsSome r) c.requires.named.told_is (named.known_before some) in
     let opened = subst (λ (opening : Tables). IsOpened held shape opening store.known_rows) (c.requires.named.opening_is ∙ sym named.opening_is)
@@ -49,9 +55,16 @@ returns-clause-ended g c = λ unread rows start held first starts opens begun.
     let many : length (kept_in shards) ≡ shape.shards =
     length-map shards kept_of ∙ c.serve_over_hub-store.ensures.as_many ∙ c.requires.ready.as_many in
     let last = last_of g.H.HubName.terms shape shards c.requires.named.terms_are c.serve_over_hub-store.ensures.all c.serve_over_hub-store.ensures.legal in
+    let capped : store.ledger.cap ≡ no_cap = named.cap_is ∙ c.requires.named.cap_is ∙ c.requires.anew.cap_is in
     let kept = is_kept shape serve_rolls held before after store (kept_in shards) g.H.HubName.start refl refl (c.requires.named.start_is ∙ starts)
-    c.ended_hub.ensures.short (named.cap_is ∙ c.requires.named.cap_is) c.ended_hub.ensures.told c.ended_hub.ensures.since
+    c.ended_hub.ensures.short (omega (arith, capped)) c.ended_hub.ensures.told c.ended_hub.ensures.since
     last many opened (λ whole some. absurd cc) (λ whole. absurd cc) in
+    let never_fell : start ≤ ran.faults = was_named.never_fell start (c.requires.named.start_is ∙ starts) in
+    let few : ran.ledger.failed ≤ 2 ^ 64 - 1 = omega (arith, c.failed.ensures.count, c.failed.type_inv) in
+    let more : ran.ledger.failed ≤ store.ledger.failed =
+    subst (λ (l : Ledger). ran.ledger.failed ≤ l.failed) (sym c.saved-status.ensures.ledger) (called_more (is_keep_fault c.saved-status.result) ran.ledger few) in
+    let at_first : g.H.BoundName.failed ≤ ran.ledger.failed = c.serve_over_hub-store.ensures.never_fewer in
+    let named_failed = c.requires.named.failed_is in
     let course : Course = record {
       held = held;
       before = before;
@@ -77,7 +90,10 @@ returns-clause-ended g c = λ unread rows start held first starts opens begun.
       c.ended_hub.ensures.rows,
       c.ended_hub.ensures.faults,
     )
-    (served_ended c.saved-status.result spec course (record {
+    (served_ended c.saved-status.result spec course
+    (λ is. rose_since start ran.faults store.faults never_fell
+    (subst (λ (e : Status). Counts (is_keep_fault e) ran.faults store.faults) is c.saved-status.ensures.counts).0)
+    (record {
       begun = c.args.ready.begun;
       begins = c.requires.ready.begins;
       begins_as =
@@ -89,7 +105,7 @@ returns-clause-ended g c = λ unread rows start held first starts opens begun.
             tells = before_now;
             fell_never = begun.never_falls;
             files_on = c.saved-status.ensures.file_never_falls;
-            store_on = subst (λ (n : ℕ). n ≤ store.ledger.failed) c.requires.named.failed_is c.serve_over_hub-store.ensures.never_fewer;
+            store_on = omega (arith, named_failed, at_first, more);
           })
           begun.begins_as;
       fail_only_told = λ fine unfaulted. c.saved-status.ensures.no_file_fault unfaulted ∙ begun.fail_only_told fine;
@@ -98,7 +114,7 @@ returns-clause-ended g c = λ unread rows start held first starts opens begun.
       kept = kept;
       attended =
           attended_saved spec c.args.ready.begun served.status c.saved-status.result _ _ _ _ _ _ c.requires.ready.begins
-          (ends_as spec.warm served.status c.saved-status.result _ _ _ _ c.saved-status.ensures.saves) c.serve_over_hub-store.ensures.served.attended;
+          (ends_as spec.warm served.status c.saved-status.result _ _ _ _ _ c.saved-status.ensures.saves) c.serve_over_hub-store.ensures.served.attended;
     }))
 
 pub returns-clause-writes : goal.returns-clause-writes
@@ -106,16 +122,16 @@ returns-clause-writes g c =
     let served = c.serve_over_hub-store.result.served in
     rw c.ended_hub.ensures.status
     (by_end (λ (e : Status). CountsWhere g.W.Sink.faults (is_write_fault e) c.args.sink.now c.serve_over_hub-store.new.sink) c.args.server.now.spec.now.warm
-    served.status c.saved-status.result (ends_as c.args.server.now.spec.now.warm served.status c.saved-status.result _ _ _ _ c.saved-status.ensures.saves)
-    (λ done. done) (λ done. done) c.serve_over_hub-store.ensures.served.writes)
+    served.status c.saved-status.result (ends_as c.args.server.now.spec.now.warm served.status c.saved-status.result _ _ _ _ _ c.saved-status.ensures.saves)
+    (λ done. done) (λ done. done) (λ done. done) c.serve_over_hub-store.ensures.served.writes)
 
 pub returns-clause-doors : goal.returns-clause-doors
 returns-clause-doors g c =
     let served = c.serve_over_hub-store.result.served in
     rw c.ended_hub.ensures.status
     (by_end (λ (e : Status). CountsWhere g.D.Door.faults (is_door_fault e) c.args.door.now c.serve_over_hub-store.new.door) c.args.server.now.spec.now.warm
-    served.status c.saved-status.result (ends_as c.args.server.now.spec.now.warm served.status c.saved-status.result _ _ _ _ c.saved-status.ensures.saves)
-    (λ done. done) (λ done. done) c.serve_over_hub-store.ensures.served.doors)
+    served.status c.saved-status.result (ends_as c.args.server.now.spec.now.warm served.status c.saved-status.result _ _ _ _ _ c.saved-status.ensures.saves)
+    (λ done. done) (λ done. done) (λ done. done) c.serve_over_hub-store.ensures.served.doors)
 
 pub returns-clause-command : goal.returns-clause-command
 returns-clause-command g c =
@@ -123,8 +139,8 @@ returns-clause-command g c =
     let attended = c.serve_over_hub-store.ensures.served.attended in
     rw c.ended_hub.ensures.status
     (by_end (λ (e : Status). e ≢ status.Usage) c.args.server.now.spec.now.warm
-    served.status c.saved-status.result (ends_as c.args.server.now.spec.now.warm served.status c.saved-status.result _ _ _ _ c.saved-status.ensures.saves)
-    (λ done is. cc) (λ done is. cc) (no_usage c.args.ready.begun served.status _ attended.printed attended.is_text))
+    served.status c.saved-status.result (ends_as c.args.server.now.spec.now.warm served.status c.saved-status.result _ _ _ _ _ c.saved-status.ensures.saves)
+    (λ done is. cc) (λ done is. cc) (λ done is. cc) (no_usage c.args.ready.begun served.status _ attended.printed attended.is_text))
 
 pub returns-clause-no_read_fault : goal.returns-clause-no_read_fault
 returns-clause-no_read_fault g c =
@@ -132,23 +148,30 @@ returns-clause-no_read_fault g c =
     let attended = c.serve_over_hub-store.ensures.served.attended in
     rw c.ended_hub.ensures.status
     (by_end (λ (e : Status). is_read_fault e ≡ false) c.args.server.now.spec.now.warm
-    served.status c.saved-status.result (ends_as c.args.server.now.spec.now.warm served.status c.saved-status.result _ _ _ _ c.saved-status.ensures.saves)
-    (λ done. refl) (λ done. refl) (no_read c.args.ready.begun served.status _ attended.printed attended.is_text))
+    served.status c.saved-status.result (ends_as c.args.server.now.spec.now.warm served.status c.saved-status.result _ _ _ _ _ c.saved-status.ensures.saves)
+    (λ done. refl) (λ done. refl) (λ done. refl) (no_read c.args.ready.begun served.status _ attended.printed attended.is_text))
 
 pub returns-clause-keeper_never_falls : goal.returns-clause-keeper_never_falls
 returns-clause-keeper_never_falls g c =
+    let ran = c.serve_over_hub-store.result.store in
+    let store = c.saved-status.new.store in
+    let named = still_named _ _ _ _ ran store (is_keep_fault c.saved-status.result) c.saved-status.ensures.ledger c.saved-status.ensures.tells
+    c.saved-status.ensures.keeper_never_falls c.serve_over_hub-store.ensures.store in
     rw c.ended_hub.ensures.faults
-    (subst (λ (count : Option ℕ). ForSome count (λ start. start ≤ c.serve_over_hub-store.result.store.faults)) c.requires.named.start_is
-    c.serve_over_hub-store.ensures.store.never_fell)
+    (subst (λ (count : Option ℕ). ForSome count (λ start. start ≤ store.faults)) c.requires.named.start_is named.never_fell)
 
 pub returns-clause-lines : goal.returns-clause-lines
 returns-clause-lines g c = λ fresh. rw c.ended_hub.ensures.ends (c.serve_over_hub-store.ensures.lines fresh)
 
 pub returns-clause-saves : goal.returns-clause-saves
 returns-clause-saves g c =
-    let store = c.serve_over_hub-store.result.store in
+    let ran = c.serve_over_hub-store.result.store in
+    let store = c.saved-status.new.store in
     let shards = c.serve_over_hub-store.result.shards.items in
+    let served = c.serve_over_hub-store.result.served in
     let spec = c.args.server.now.spec.now in
+    let same : rows_of store.ledger ≡ rows_of ran.ledger =
+    ap rows_of c.saved-status.ensures.ledger ∙ called_rows (is_keep_fault c.saved-status.result) ran.ledger in
     rw (
       c.ended_hub.ensures.status,
       c.ended_hub.ensures.opening,
@@ -158,9 +181,9 @@ returns-clause-saves g c =
     )
     (saves_at spec g.H.HubName.terms store shards c.requires.named.terms_are c.serve_over_hub-store.ensures.all
     (c.serve_over_hub-store.ensures.as_many ∙ c.requires.ready.as_many) c.serve_over_hub-store.ensures.legal
-    (λ some. subst (λ (t : Tables). AreRight t store.ledger.log shards) (sym c.serve_over_hub-store.ensures.store.opening_is) (c.serve_over_hub-store.ensures.right some))
-    spec.warm c.serve_over_hub-store.result.served.status c.saved-status.result _ _
-    (rw (c.as_slice.ensures.value, c.log.ensures.items) at c.saved-status.ensures.saves))
+    spec.warm served.status c.saved-status.result _ _
+    (subst (λ (rows : Tables). EndsSaved spec.warm served.status c.saved-status.result store.known_rows rows shards (g.F.CacheFile.text_at c.args.file.now) (g.F.CacheFile.text_at c.saved-status.new.file))
+    (sym same) (rw c.as_slice.ensures.value at c.saved-status.ensures.saves)))
 
 pub returns-clause-file_fault : goal.returns-clause-file_fault
 returns-clause-file_fault g c = rw c.ended_hub.ensures.status c.saved-status.ensures.file_fault
@@ -184,3 +207,6 @@ saved-status-requires-clause-roomy g c =
 
 pub saved-status-requires-clause-unsaved : goal.saved-status-requires-clause-unsaved
 saved-status-requires-clause-unsaved g c = c.serve_over_hub-store.ensures.served.unsaved
+
+pub saved-status-requires-clause-unfailed : goal.saved-status-requires-clause-unfailed
+saved-status-requires-clause-unfailed g c = c.serve_over_hub-store.ensures.served.unfailed

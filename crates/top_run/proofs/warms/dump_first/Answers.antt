@@ -13,7 +13,7 @@ use Rattle.top_run.specs.Warming.{AreToLoad, left_by, left_in, stop_status}
 use Rattle.top_run.proofs.SecondLemmas.{dumps_are_in}
 use Rattle.top_run.proofs.WarmEnds.{is_first_of, stopped_between}
 use Rattle.top_run.proofs.WarmingLemmas.{all_bytes, to_load_all}
-use Rattle.top_run.proofs.WorkLemmas.{numbered_of}
+use Rattle.top_run.proofs.WorkLemmas.{numbered_of, cap_kept}
 use Rattle.top_run.proofs.warms.dump_first.Goals as goal
 
 pub dumps_of-requires-clause-numbered : goal.dumps_of-requires-clause-numbered
@@ -35,7 +35,7 @@ load_second-requires-clause-to_load g c κs within =
     let made = c.in-Ok-made_anew.ensures in
     subst (λ (left : Left). AreToLoad spec left half.store.known_rows half.store.ledger.opening c.in-Ok.dumps.items) (sym made.left)
     (to_load_all spec store shards c.in-Ok.dumps.items half.store.known_rows half.store.ledger.opening c.requires.run
-    (rw (c.log.ensures.items, c.as_slice.ensures.value) at c.in-Ok.ensures)
+    (rw (c.log.ensures.items (cap_kept _ c.requires.run.cap_is), c.as_slice.ensures.value) at c.in-Ok.ensures)
     (λ some. subst (λ (rows : Option Tables). IsSome rows) made.keeper.0 some)
     (made.half.opening_is ∙ ap (λ (left : Left). rows_after store.ledger.opening left.log) made.left))
 
@@ -99,7 +99,7 @@ returns-in-Err-tell_dumps-clause-ended g c = λ unread door files rows start hel
     let first = is_first_of spec held store shards found text c.requires.run opens summary ended.short in
     let lines : dump_lines (map (λ dumped. dumped.dump) c.in-Ok.dumps.items) ≡ dump_lines (dumps_in (left_by store shards)) =
     ap (λ (dumps : List Dump). dump_lines dumps) (dumps_are_in spec store shards c.in-Ok.dumps.items c.requires.run.all
-    (rw (c.log.ensures.items, c.as_slice.ensures.value) at c.in-Ok.ensures)) in
+    (rw (c.log.ensures.items (cap_kept _ c.requires.run.cap_is), c.as_slice.ensures.value) at c.in-Ok.ensures)) in
     let cut = rw c.as_slice-2.ensures.value at c.in-Err-tell_dumps.ensures.some taken text prints in
     rw (
       ended.status,
@@ -124,12 +124,12 @@ returns-in-Ok-made_anew-clause-ended g c = λ unread door files rows start held 
     let half = c.in-Ok-made_anew.half in
     let made = c.in-Ok-made_anew.ensures in
     let left = left_by store shards in
-    let short = (rw c.log.ensures.items at c.log.ensures.few) in
+    let short = c.log.ensures.few in
     let first = is_first_of spec held store shards found text c.requires.run opens summary short in
     let only : map phase_left half.earlier.items ≡ left ∷ [] = made.half.only ∙ ap (λ (l : Left). l ∷ []) made.left in
     let lines : dump_lines (map (λ dumped. dumped.dump) c.in-Ok.dumps.items) ≡ dump_lines (dumps_in (left_in half.earlier.items)) =
     ap (λ (dumps : List Dump). dump_lines dumps) (dumps_are_in spec store shards c.in-Ok.dumps.items c.requires.run.all
-    (rw (c.log.ensures.items, c.as_slice.ensures.value) at c.in-Ok.ensures) ∙ ap (λ (l : Left). dumps_in l) (sym made.left)) in
+    (rw (c.log.ensures.items (cap_kept _ c.requires.run.cap_is), c.as_slice.ensures.value) at c.in-Ok.ensures) ∙ ap (λ (l : Left). dumps_in l) (sym made.left)) in
     c.load_second.ensures.ended unread door files rows start held taken failed store.ledger.opening text starts made.half
     (subst (λ (r : Option Tables). IsFirst spec held r (map phase_left half.earlier.items) (left_in half.earlier.items) store.ledger.opening text) (sym made.keeper.0)
     (subst (λ (l : Left). IsFirst spec held store.known_rows (map phase_left half.earlier.items) l store.ledger.opening text) (sym made.left)
@@ -162,7 +162,7 @@ returns-in-Err-made_anew-clause-ended g c = λ unread door files rows start held
     let first = is_first_of spec held store shards found text c.requires.run opens summary (rw same at ended.short) in
     let lines : dump_lines (map (λ dumped. dumped.dump) c.in-Ok.dumps.items) ≡ dump_lines (dumps_in (left_by store shards)) =
     ap (λ (dumps : List Dump). dump_lines dumps) (dumps_are_in spec store shards c.in-Ok.dumps.items c.requires.run.all
-    (rw (c.log.ensures.items, c.as_slice.ensures.value) at c.in-Ok.ensures)) in
+    (rw (c.log.ensures.items (cap_kept _ c.requires.run.cap_is), c.as_slice.ensures.value) at c.in-Ok.ensures)) in
     rw (
       ended.status,
       ended.opening,

@@ -4,6 +4,7 @@ use Rattle.run_inputs.specs.declared.loads.WorkSpec.{WorkSpec}
 use Rattle.run_inputs.specs.Loads.{IsWork}
 use Rattle.rows_model.specs.Rows.{Tables}
 use Rattle.shard_dump.specs.declared.rows.DumpRow.{DumpRow}
+use Rattle.core_history.specs.Machine.{log_cap}
 use Rattle.top_run.specs.declared.runs.Status.TheVariants as status
 use Rattle.top_run.specs.Runs.{moment}
 use Rattle.top_run.specs.Serves.{Course, phase_left}
@@ -32,7 +33,7 @@ pub run_second-requires-clause-work : goal.run_second-requires-clause-work
 run_second-requires-clause-work g c κs within = subst IsWork (sym c.next_load-spec.ensures) (next_works c.args.warming.now.spec.now c.requires.work)
 
 pub run_second-requires-clause-anew : goal.run_second-requires-clause-anew
-run_second-requires-clause-anew g c κs within = anew_still c.args.half.store c.loaded.new.store c.loaded.ensures.keeps_on c.requires.anew
+run_second-requires-clause-anew g c κs within = anew_still log_cap c.args.half.store c.loaded.new.store c.loaded.ensures.keeps_on c.requires.anew
 
 pub run_second-requires-clause-never_fell : goal.run_second-requires-clause-never_fell
 run_second-requires-clause-never_fell g c κs within =

@@ -1,5 +1,4 @@
 use Rattle.std.proofs.Common.{false, None, length}
-use Rattle.core_history.specs.Machine.{log_cap}
 use Rattle.top_run.specs.Works.{work_shape, hub_terms}
 use Rattle.top_run.specs.Warming.{before_of}
 use Rattle.top_run.proofs.warms.load_second.Given as goal
@@ -9,7 +8,7 @@ abbrev pub ghosts-run_second-H-HubName : goal.ghosts-run_second-H-HubName
 ghosts-run_second-H-HubName g a = record {
   terms = hub_terms (work_shape a.warming.now.spec.now) false;
   opening = a.half.store.ledger.opening;
-  cap = log_cap;
+  cap = a.half.store.ledger.cap;
   known_rows = a.half.store.known_rows;
   start = g.N.Start.count;
 }

@@ -22,7 +22,7 @@ use Rattle.top_run.proofs.ReadyLemmas.{make_hub}
 use Rattle.top_run.proofs.SessionLemmas.{load_asks}
 use Rattle.top_run.proofs.WarmEnds.{all_alike, stopped_first}
 use Rattle.top_run.proofs.WarmLemmas.{ran_whole, since_none, unused_legal}
-use Rattle.top_run.proofs.WorkLemmas.{is_kept, legal_of, numbered_of, whole_of}
+use Rattle.top_run.proofs.WorkLemmas.{is_kept, legal_of, numbered_of, whole_of, cap_kept, cap_most}
 use Rattle.top_run.proofs.warms.run_first.Goals as goal
 
 pub run_plans-store-requires-clause-parts : goal.run_plans-store-requires-clause-parts
@@ -117,7 +117,7 @@ returns-in-Ok-clause-ended g c = λ unread door files rows held opens.
     let shards = c.run_plans-store.result.shards.items in
     let spec = c.args.warming.now.spec.now in
     let named = c.run_plans-store.ensures.store in
-    let made = (rw (c.opening.ensures, c.log.ensures.items, c.as_slice-2.ensures.value) at c.summed_up-made.ensures.summary) in
+    let made = (rw (c.opening.ensures, c.log.ensures.items (cap_kept _ (c.run_plans-store.ensures.store.cap_is ∙ c.requires.named.cap_is)), c.as_slice-2.ensures.value) at c.summed_up-made.ensures.summary) in
     let summed = rw c.in-Ok.is at (c.tell-printed.ensures.told spec store.ledger.opening store.ledger.log (histories_in shards) made) in
     let before_now : IsSome store.known_rows → IsSome c.args.store.known_rows = λ some.
     subst (λ (r : Option Tables). IsSome r) c.requires.named.told_is (named.known_before some) in
@@ -131,7 +131,7 @@ returns-clause-ended g c = λ unread door files rows held opens.
     let store = c.run_plans-store.result.store in
     let shards = c.run_plans-store.result.shards.items in
     let spec = c.args.warming.now.spec.now in
-    let made = (rw (c.opening.ensures, c.log.ensures.items, c.as_slice-2.ensures.value) at c.summed_up-made.ensures.summary) in
+    let made = (rw (c.opening.ensures, c.log.ensures.items (cap_kept _ (c.run_plans-store.ensures.store.cap_is ∙ c.requires.named.cap_is)), c.as_slice-2.ensures.value) at c.summed_up-made.ensures.summary) in
     let halted = rw c.in-Err.is at (c.tell-printed.ensures.halted spec store.ledger.opening store.ledger.log (histories_in shards) made) in
     let before = moment unread (g.W.Sink.taken c.args.sink.now) (g.W.Sink.faults c.args.sink.now) rows c.args.store.faults in
     let after = moment unread (g.W.Sink.taken c.tell-printed.new.sink) (g.W.Sink.faults c.tell-printed.new.sink) store.known_rows store.faults in
@@ -144,7 +144,7 @@ returns-clause-ended g c = λ unread door files rows held opens.
     length-map shards (λ (s : ShardView). s.history) ∙ c.run_plans-store.ensures.as_many ∙ c.requires.ready.parts.as_many in
     let legal = legal_of g.H.HubName.terms (work_shape spec) shards c.requires.named.terms_are c.run_plans-store.ensures.all c.run_plans-store.ensures.legal in
     let kept = is_kept (work_shape spec) false held before after store (histories_in shards) g.H.HubName.start refl refl c.requires.named.start_is
-    c.ended_first.ensures.short (named.cap_is ∙ c.requires.named.cap_is) c.ended_first.ensures.told c.ended_first.ensures.since
+    c.ended_first.ensures.short (cap_most _ (named.cap_is ∙ c.requires.named.cap_is)) c.ended_first.ensures.told c.ended_first.ensures.since
     legal many opened
     (λ whole some. subst (λ (opening : Tables). Fresh opening store.ledger.log (histories_in shards)) (sym named.opening_is) (c.run_plans-store.ensures.fresh some))
     (λ whole. c.run_plans-store.ensures.covered) in

@@ -27,12 +27,12 @@ use Rattle.top_run.proofs.SecondLemmas.{behind_loaded, hits_valued, make_anew, t
 use Rattle.top_run.proofs.SessionLemmas.{load_asks}
 use Rattle.top_run.proofs.WarmEnds.{all_alike, ended_second, first_later, where_told}
 use Rattle.top_run.proofs.WarmLemmas.{ran_all}
-use Rattle.top_run.proofs.WorkLemmas.{left_of, legal_of, numbered_of, whole_of}
+use Rattle.top_run.proofs.WorkLemmas.{left_of, legal_of, numbered_of, whole_of, cap_kept}
 use Rattle.top_run.proofs.warms.run_second.Goals as goal
 
 pub run_plans-store-requires-clause-new : goal.run_plans-store-requires-clause-new
 run_plans-store-requires-clause-new g c =
-    λ κs outlives. rw c.renamed.ensures (new_store (work_shape c.args.warming.now.spec.now) false c.args.half.store _ _ _ _ _ _ _ _ _ _ _ _ _ c.requires.anew c.requires.named)
+    λ κs outlives. rw c.renamed.ensures (new_store (work_shape c.args.warming.now.spec.now) false c.args.half.store _ _ _ _ _ _ _ _ _ _ _ _ _ _ c.requires.anew c.requires.named)
 
 pub run_plans-store-requires-clause-ask : goal.run_plans-store-requires-clause-ask
 run_plans-store-requires-clause-ask g c =
@@ -123,7 +123,7 @@ returns-clause-ended g c = λ unread door files rows start held taken failed spe
     let all = all_alike g.H.HubName.terms (hub_terms (work_shape second) false) shards named.terms_are run.all in
     let by_spec : IsLeftBy second store.known_rows anew left = record {
       opening_is = ap (λ (t : Tables). Some t) opening_now;
-      short = subst (λ (n : ℕ). length store.ledger.log ≤ n) (run.store.cap_is ∙ named.cap_is) c.ended_hub.ensures.short;
+      short = subst (λ (n : ℕ). length store.ledger.log ≤ n) (run.store.cap_is ∙ named.cap_is ∙ c.requires.anew.cap_is) c.ended_hub.ensures.short;
       as_many = length-map shards (λ (s : ShardView). s.history) ∙ many;
       legal = legal_of g.H.HubName.terms (work_shape second) shards named.terms_are run.all run.legal;
       fresh = λ some. subst (λ (t : Tables). Fresh t store.ledger.log (histories_in shards)) half.opening_is (fresh some);
@@ -144,7 +144,7 @@ returns-clause-ended g c = λ unread door files rows start held taken failed spe
       failed = store.ledger.failed;
       since = c.ended_hub.ensures.since start (named.start_is ∙ starts);
     } in
-    let made = (rw (c.opening.ensures, c.log.ensures.items, c.as_slice-2.ensures.value) at c.summed_up-made.ensures.summary) in
+    let made = (rw (c.opening.ensures, c.log.ensures.items (cap_kept _ (run.store.cap_is ∙ named.cap_is ∙ c.requires.anew.cap_is)), c.as_slice-2.ensures.value) at c.summed_up-made.ensures.summary) in
     let made_so = subst (λ (s : WorkSpec). IfOk c.summed_up-made.result
     (λ one. IsSummary s anew store.ledger.log (histories_in shards) one.finding one.text.items)) (sym next)
     (subst (λ (t : Tables). IfOk c.summed_up-made.result

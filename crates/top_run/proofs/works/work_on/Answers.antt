@@ -19,7 +19,7 @@ use Rattle.top_run.specs.Warming.{LoadsOnly}
 use Rattle.core_history.specs.Machine.{log_cap}
 use Rattle.bound_hub.proofs.NewLemmas.{opened_is_new}
 use Rattle.top_run.proofs.ReadyLemmas.{make_hub}
-use Rattle.top_run.proofs.WorkLemmas.{numbered_of, whole_of, legal_of, left_of, is_kept, work_ended, no_usage, no_read, at_write_end}
+use Rattle.top_run.proofs.WorkLemmas.{numbered_of, whole_of, legal_of, left_of, is_kept, work_ended, no_usage, no_read, at_write_end, cap_kept, cap_most}
 use Rattle.top_run.proofs.works.work_on.Goals as goal
 
 pub run_plans-store-requires-clause-parts : goal.run_plans-store-requires-clause-parts
@@ -75,8 +75,8 @@ returns-clause-ended g c = λ unread rows held opens.
     let store = c.run_plans-store.result.store in
     let shards = c.run_plans-store.result.shards.items in
     let spec = c.args.spec.now in
-    let short = (rw c.log.ensures.items at c.log.ensures.few) in
-    let made = (rw (c.opening.ensures, c.log.ensures.items, c.as_slice-2.ensures.value) at c.summed_up-made.ensures.summary) in
+    let short = c.log.ensures.few in
+    let made = (rw (c.opening.ensures, c.log.ensures.items (cap_kept _ (c.run_plans-store.ensures.store.cap_is ∙ c.requires.named.cap_is)), c.as_slice-2.ensures.value) at c.summed_up-made.ensures.summary) in
     let before = moment unread (g.W.Sink.taken c.args.sink.now) (g.W.Sink.faults c.args.sink.now) rows c.args.store.faults in
     let after = moment unread (g.W.Sink.taken c.tell-printed.new.sink) (g.W.Sink.faults c.tell-printed.new.sink) store.known_rows store.faults in
     let named = c.run_plans-store.ensures.store in
@@ -88,7 +88,7 @@ returns-clause-ended g c = λ unread rows held opens.
     length-map shards (λ (s : ShardView). s.history) ∙ c.run_plans-store.ensures.as_many ∙ c.requires.ready.parts.as_many in
     let legal = legal_of g.H.HubName.terms (work_shape spec) shards c.requires.named.terms_are c.run_plans-store.ensures.all c.run_plans-store.ensures.legal in
     let kept = is_kept (work_shape spec) false held before after store (histories_in shards) g.H.HubName.start refl refl c.requires.named.start_is
-    short (c.run_plans-store.ensures.store.cap_is ∙ c.requires.named.cap_is) c.ended_work.ensures.told c.ended_work.ensures.since
+    short (cap_most _ (c.run_plans-store.ensures.store.cap_is ∙ c.requires.named.cap_is)) c.ended_work.ensures.told c.ended_work.ensures.since
     legal many opened
     (λ whole some. subst (λ (opening : Tables). Fresh opening store.ledger.log (histories_in shards)) (sym named.opening_is) (c.run_plans-store.ensures.fresh some))
     (λ whole. c.run_plans-store.ensures.covered) in

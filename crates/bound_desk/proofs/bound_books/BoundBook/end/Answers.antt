@@ -19,15 +19,15 @@ invariant_of-self g c =
     let who = c.args.who in
     let book = c.self.inside.book.book in
     let seen = c.end-closed.new.pass.seen in
-    let same : c.has_committed-did_commit.new.pass ≡ c.end-closed.new.pass = c.has_committed-did_commit.ensures.same in
+    let same : c.may_have_committed-may_have.new.pass ≡ c.end-closed.new.pass = c.may_have_committed-may_have.ensures.same in
     let still = book_goes_on opening shards book c.self.inside.pass.seen seen c.end-closed.ensures.seen c.self.invariant.1 in
     let ready = ready_goes_on opening before shards book c.self.inside.pass.seen seen c.end-closed.ensures.seen c.self.invariant.2 in
     let quit = quit_goes_on c.self.inside.quit c.self.inside.pass.seen seen c.end-closed.ensures.seen c.self.invariant.3 in
     let sound = subst (λ (w : WordView). IsSound w.shards seen) c.end-closed.ensures.word c.sound.ensures in
     let shows = subst (ShowsEnd who seen) (sym c.was.ensures) c.end-closed.ensures.shows in
     let has_quit =
-    end_quits shards seen who book.present c.self.inside.quit c.was.result c.is_writing-writes.result c.has_committed-did_commit.result sound shows still.present
-    c.is_writing-writes.ensures.0 c.has_committed-did_commit.ensures.shows quit in (
+    end_quits shards seen who book.present c.self.inside.quit c.was.result c.is_writing-writes.result c.may_have_committed-may_have.result sound shows still.present
+    c.is_writing-writes.ensures.0 c.may_have_committed-may_have.ensures.shows quit in (
       ap (λ (p : PassView). p.word) same ∙ c.end-closed.ensures.word,
       subst (λ (p : PassView). IsBoundBook opening shards c.note_end.new.self.book p.seen) (sym same)
           (subst (λ b. IsBoundBook opening shards b seen) (sym c.note_end.ensures)
@@ -40,9 +40,9 @@ invariant_of-self g c =
 
 pub returns-clause-seen : goal.returns-clause-seen
 returns-clause-seen g c =
-    subst (λ (v : BoundBookView). IsBeginning v.seen c.has_committed-did_commit.new.pass.seen) c.self.view_is
-    (subst (λ (p : PassView). IsBeginning c.self.inside.pass.seen p.seen) (sym c.has_committed-did_commit.ensures.same) c.end-closed.ensures.seen)
+    subst (λ (v : BoundBookView). IsBeginning v.seen c.may_have_committed-may_have.new.pass.seen) c.self.view_is
+    (subst (λ (p : PassView). IsBeginning c.self.inside.pass.seen p.seen) (sym c.may_have_committed-may_have.ensures.same) c.end-closed.ensures.seen)
 
 pub returns-clause-shows : goal.returns-clause-shows
 returns-clause-shows g c =
-    subst (λ (p : PassView). ShowsEnd c.args.who p.seen c.end-closed.result.was) (sym c.has_committed-did_commit.ensures.same) c.end-closed.ensures.shows
+    subst (λ (p : PassView). ShowsEnd c.args.who p.seen c.end-closed.result.was) (sym c.may_have_committed-may_have.ensures.same) c.end-closed.ensures.shows

@@ -29,7 +29,7 @@ store-requires-clause-answers c =
     set-answer c.requires.ties c.args.key c.args.token c.args.value c.args.stamp c.args.now true
     c.in_ok-check_home.ensures.home (sym c.if-can_take_i.true ∙ c.can_take_i.ensures)
 
-pub note-requires-clause-answers : goal.note-requires-clause-answers
-note-requires-clause-answers c =
+pub void-requires-clause-answers : goal.void-requires-clause-answers
+void-requires-clause-answers c =
     set-answer c.requires.ties c.args.key c.args.token c.args.value c.args.stamp c.args.now false
     c.in_ok-check_home.ensures.home (sym c.if-can_take_i.false ∙ c.can_take_i.ensures)

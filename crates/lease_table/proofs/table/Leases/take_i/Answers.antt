@@ -1,18 +1,26 @@
 use Rattle.std.proofs.Common.{sym, ap, ◌∙◌}
-use Rattle.lease_table.specs.Leases.{is_current}
+use Rattle.lease_table.specs.Leases.{first, is_current}
 use Rattle.lease_table.proofs.ChangeLemmas.{IsKept-take, Leaves-take}
+use Rattle.lease_table.proofs.MapLemmas.{records-at}
 use Rattle.lease_table.proofs.table.Leases.take_i.Goals as goal
+
+pub end_read-requires-clause-was : goal.end_read-requires-clause-was
+end_read-requires-clause-was c =
+    let reader = rw (← c.self.view_is) at c.on_key-reader.ensures.reader in
+    reader ∙ ap first (records-at c.args.key.now c.self.inside.leases c.self.invariant.0.in_order).reads_there
 
 pub invariant_of-self : goal.invariant_of-self
 invariant_of-self c =
-    let reader = rw (← c.self.view_is) at c.on_key.ensures.reader in
-    let current = ap (is_current c.args.token c.args.now) (sym reader) ∙ sym c.is_current_at.ensures ∙ c.if-not-is_current_at.false in
-    IsKept-take c.args.key.now c.args.token c.args.now c.self.inside.leases
-    c.drop_read.new.leases c.self.inside.index c.self.invariant current c.drop_read.ensures
+    let reader = rw (← c.self.view_is) at c.on_key-reader.ensures.reader in
+    let current = ap (is_current c.args.token c.args.now) (sym reader) ∙ sym c.is_current_at.ensures ∙ c.if-not-is_current_at.false in (
+      IsKept-take c.args.key.now c.args.token c.args.now c.self.inside.leases
+          c.end_read.new.leases c.self.inside.index c.self.invariant.0 current c.end_read.ensures.puts,
+      c.end_read.ensures.listed,
+    )
 
 pub returns-clause-after : goal.returns-clause-after
 returns-clause-after c =
-    let reader = rw (← c.self.view_is) at c.on_key.ensures.reader in
+    let reader = rw (← c.self.view_is) at c.on_key-reader.ensures.reader in
     let current = ap (is_current c.args.token c.args.now) (sym reader) ∙ sym c.is_current_at.ensures ∙ c.if-not-is_current_at.false in
     rw (← c.self.view_is) (Leaves-take c.args.key.now c.args.token
-    c.args.now c.self.inside.leases c.drop_read.new.leases c.self.inside.index c.self.invariant current c.drop_read.ensures)
+    c.args.now c.self.inside.leases c.end_read.new.leases c.self.inside.index c.self.invariant.0 current c.end_read.ensures.puts)

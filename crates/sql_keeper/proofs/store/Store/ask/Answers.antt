@@ -9,6 +9,7 @@ invariant_of-self g c = (
   c.self.invariant.1,
   λ known_rows is_told. c.self.invariant.2 known_rows (c.ask.ensures.tells known_rows is_told).0,
   failed-same _ _ _ _ c.self.invariant.3 c.in-Ok.ensures.counts,
+  c.self.invariant.4,
 )
 
 pub returns-in-Ok-clause-tells : goal.returns-in-Ok-clause-tells

@@ -16,9 +16,9 @@ invariant_of-self-2 g c =
     let ledger : Ledger = record { opening = inside.opening; log = inside.log.items; sessions = inside.sessions; cap = inside.cap; failed = inside.failed } in
     let first =
     admitted (is_open c.args.sid inside.sessions) c.args.sid c.args.grants.now c.args.txn (length inside.log.items) inside.cap c.in_default.ensures.ok in
-    let same : record { opening = inside.opening; log = c.push_reserved.new.self.items; sessions = c.close.new.self; cap = inside.cap; failed = inside.failed }
+    let same : record { opening = inside.opening; log = c.push.new.self.items; sessions = c.close.new.self; cap = inside.cap; failed = inside.failed }
     ≡ with_commit c.args.sid c.args.txn ledger =
-    rw (c.push_reserved.ensures.items, c.admit.ensures.items, c.close.ensures) refl in (
+    rw (c.push.ensures.items, c.admit.ensures.items, c.close.ensures) refl in (
       c.commit.ensures.started,
       subst IsLedger (sym same) (ledger-committed ledger c.args.sid c.args.txn c.self.invariant.1 first.0 first.1),
       λ known_rows is_told.
@@ -28,6 +28,7 @@ invariant_of-self-2 g c =
           (subst (λ (rows : Tables). apply_all c.args.txn rows ≡ Ok known_rows) log_is before.2)
           ∙ sym (ap (λ l. rows_after inside.opening l.log) same),
       failed-same _ _ _ _ c.self.invariant.3 c.in_default-commit.ensures.counts,
+      c.push.ensures.keeps ∙ c.admit.ensures.keeps ∙ c.self.invariant.4,
     )
 
 pub returns-clause-applied : goal.returns-clause-applied
