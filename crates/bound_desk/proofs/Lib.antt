@@ -6,3 +6,4 @@ pub mod WritingLemmas
 pub mod WriteLemmas
 pub mod RaiseLemmas
 pub mod RecordLemmas
+pub mod ToldLemmas

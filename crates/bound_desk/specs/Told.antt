@@ -9,7 +9,7 @@ use Rattle.key_shard.specs.declared.steps.Step.{Step}
 use Rattle.key_shard.specs.Past.{Terms}
 use Rattle.key_shard.specs.Permit.{Permit}
 use Rattle.session_client.specs.Belongs.{Belongs}
-use Rattle.session_client.specs.Desks.{Exchange, Began, Asked}
+use Rattle.session_client.specs.Desks.{Exchange, Began, Asked, IsProper}
 use Rattle.session_client.specs.declared.replies.Reply.{Reply}
 use Rattle.session_client.specs.declared.replies.Reply.TheVariants as Reply
 use Rattle.session_client.specs.declared.replies.Wanted.{Wanted}
@@ -93,6 +93,7 @@ IsShownAs opening cap terms before shards who request reply (Err back) book afte
 -- behind it.
 pub record IsAnswered (opening : Tables) (cap : ℕ) (terms : ℕ → Terms) (before : ℕ → List Step) (shards : ℕ) (who : Sid) (request : Wanted) (reply : Reply)
     (book after : Book) (old new : Seen) : Type 0 where
+  pub proper : IsProper request
   pub belongs : Belongs who request reply
   pub begins : IsBeginning old new
   pub way : Result Made Wanted
