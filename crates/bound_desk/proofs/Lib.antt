@@ -7,3 +7,4 @@ pub mod WriteLemmas
 pub mod RaiseLemmas
 pub mod RecordLemmas
 pub mod ToldLemmas
+pub mod OldLemmas

@@ -177,3 +177,8 @@ module _ (opening : Tables) (cap : ℕ) (terms : ℕ → Terms) (before : ℕ �
     dropped = λ differs. absurd (differs refl);
     noted = inr (same, closed, refl);
   }
+
+-- a session that isn't said to be over wasn't open
+pub closed_by : (was over : Bool) → (IsTrue was → IsTrue over) → over ≡ false → was ≡ false
+closed_by true over gives e = absurd (false≢true (sym e ∙ gives refl))
+closed_by false over gives e = refl
