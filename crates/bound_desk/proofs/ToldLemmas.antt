@@ -20,7 +20,10 @@ use Rattle.executor.specs.Requests.{key_of}
 use Rattle.log_word.specs.declared.seen.Seen.{Seen}
 use Rattle.log_word.specs.Steps.{IsBeginning}
 use Rattle.log_word.proofs.ViewLemmas.{beginning_same, beginning_trans}
-use Rattle.bound_hub.specs.Stores.{ShowsEnd}
+use Rattle.sql_keeper.specs.declared.faults.KeepFault.{KeepFault}
+use Rattle.sql_keeper.specs.declared.faults.KeepFault.TheVariants as keep
+use Rattle.sql_keeper.specs.Faults.{has_failed}
+use Rattle.bound_hub.specs.Stores.{SeesFailure, ShowsEnd}
 use Rattle.desk_book.specs.Books.{Book, empty_book, first_book, noted_for, without_grant}
 use Rattle.desk_book.specs.Borne.{IsForm}
 use Rattle.desk_book.specs.Made.{made_in}
@@ -28,7 +31,7 @@ use Rattle.desk_book.specs.declared.forms.Form.{Form}
 use Rattle.desk_book.specs.declared.forms.Form.TheVariants as form
 use Rattle.desk_book.specs.declared.made.Made.{Made}
 use Rattle.desk_book.specs.declared.made.Made.TheVariants as made
-use Rattle.bound_desk.specs.AtStore.{ShowsAtStore}
+use Rattle.bound_desk.specs.AtStore.{fault_of_keeper, ShowsAtStore}
 use Rattle.bound_desk.specs.Faults.{ShowsFault}
 use Rattle.bound_desk.specs.Safe.{drop_reply}
 use Rattle.bound_desk.specs.Shown.{ShowsDrop, ShowsReply}
@@ -177,6 +180,12 @@ module _ (opening : Tables) (cap : ℕ) (terms : ℕ → Terms) (before : ℕ �
     dropped = λ differs. absurd (differs refl);
     noted = inr (same, closed, refl);
   }
+
+-- a question that the keeper didn't answer
+pub unanswered : (opening : Tables) (cap : ℕ) (book : Book) (who : Sid) (key : QKey) (fault : KeepFault) (old new : Seen) → SeesFailure (has_failed fault) old new
+    → ShowsAtStore opening cap book who (wanted.Ask key) (Reply.Fault (fault_of_keeper fault)) old new
+unanswered opening cap book who key keep.Failed old new h = h
+unanswered opening cap book who key keep.Memory old new h = tt
 
 -- a session that isn't said to be over wasn't open
 pub closed_by : (was over : Bool) → (IsTrue was → IsTrue over) → over ≡ false → was ≡ false

@@ -6,7 +6,10 @@ use Rattle.rows_model.specs.Rows.{Tables}
 use Rattle.key_shard.specs.Permit.{Permit}
 use Rattle.sql_keeper.specs.declared.faults.CommitFault.{CommitFault}
 use Rattle.sql_keeper.specs.declared.faults.CommitFault.TheVariants as causes
+use Rattle.sql_keeper.specs.declared.faults.KeepFault.{KeepFault}
+use Rattle.sql_keeper.specs.declared.faults.KeepFault.TheVariants as keep
 use Rattle.sql_keeper.specs.Faults.{is_failure, staged_failed}
+use Rattle.session_client.specs.declared.replies.Fault.{Fault}
 use Rattle.session_client.specs.declared.replies.Fault.TheVariants as fault
 use Rattle.session_client.specs.declared.replies.Reply.{Reply}
 use Rattle.session_client.specs.declared.replies.Reply.TheVariants as Reply
@@ -16,6 +19,11 @@ use Rattle.log_word.specs.declared.seen.Seen.{Seen}
 use Rattle.bound_hub.specs.Stores.{SeesFailure, ShowsAnswer, ShowsCommit, ShowsEnd, ShowsRefusal, ShowsStaged}
 use Rattle.desk_book.specs.Apart.{is_held}
 use Rattle.desk_book.specs.Books.{Book}
+
+-- What a session is told of a question that the keeper didn't answer.
+abbrev pub fault_of_keeper : KeepFault → Fault
+fault_of_keeper keep.Failed = fault.Keep
+fault_of_keeper keep.Memory = fault.Memory
 
 -- A session didn't commit under these grants: for want of memory, or for a fault that the events show. A failed keeper is
 -- told only where one more failed call is seen.

@@ -6,7 +6,7 @@ ghost use Rattle.executor.specs.OnStore.{IsAtStore};
 ghost use Rattle.log_word.specs.Steps.{IsBeginning};
 ghost use Rattle.desk_book.specs.Books.{Book};
 ghost use Rattle.desk_book.specs.Borne.{IsPresent};
-ghost use Rattle.bound_desk.specs.AtStore.{ShowsAtStore};
+ghost use Rattle.bound_desk.specs.AtStore.{fault_of_keeper, ShowsAtStore};
 ghost use Rattle.bound_desk.specs.Safe.{IsSafe};
 ghost use Rattle.bound_desk.specs.Told.{book_after};
 
@@ -30,16 +30,15 @@ impl<H: BoundName> BoundBook<H> {
         requires { word.now ≡ H.word }
         ensures belongs { Belongs who (wanted.Ask key) result }
         ensures seen { IsBeginning self.old.seen self.new.seen }
-        ensures shows { ShowsAtStore H.opening H.cap self.old.book.book who (wanted.Ask key) result
-            self.old.seen self.new.seen }
+        ensures shows { ShowsAtStore H.opening H.cap self.old.book.book who
+            (wanted.Ask key) result self.old.seen self.new.seen }
         ensures book { self.new.book.book
             ≡ book_after who (wanted.Ask key) result self.old.book.book }
     {
         match self.ask(word, store, who, &key) {
             Ok(answer) => Reply::Answer { answer },
-            Err(KeepFault::Failed) => Reply::Fault { fault: Fault::Keep },
-            Err(KeepFault::Memory) => Reply::Fault {
-                fault: Fault::Memory,
+            Err(fault) => Reply::Fault {
+                fault: of_keeper(fault),
             },
         }
     }
@@ -80,8 +79,8 @@ impl<H: BoundName> BoundBook<H> {
         requires present { IsPresent self.old.book.book who }
         ensures belongs { Belongs who (wanted.Commit txn grants) result }
         ensures seen { IsBeginning self.old.seen self.new.seen }
-        ensures shows { ShowsAtStore H.opening H.cap self.old.book.book who (wanted.Commit txn grants) result
-            self.old.seen self.new.seen }
+        ensures shows { ShowsAtStore H.opening H.cap self.old.book.book who
+            (wanted.Commit txn grants) result self.old.seen self.new.seen }
         ensures book { self.new.book.book
             ≡ book_after who (wanted.Commit txn grants) result self.old.book.book }
     {
@@ -149,5 +148,15 @@ impl<H: BoundName> BoundBook<H> {
             | Wanted::Renew { .. }
             | Wanted::Nothing => unreachable!(),
         }
+    }
+}
+
+/// What a session is told of a question that the keeper didn't answer.
+fn of_keeper(fault: KeepFault) -> Fault
+    ensures { result ≡ fault_of_keeper fault }
+{
+    match fault {
+        KeepFault::Failed => Fault::Keep,
+        KeepFault::Memory => Fault::Memory,
     }
 }

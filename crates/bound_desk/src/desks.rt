@@ -75,7 +75,7 @@ impl<'a, K: Keeper, H: BoundName, C: Clock, G: Gate, R: Wait> Model
         × IsRecordSeen H.terms H.before H.word.shards desk.worker desk.calls desk.notes.seen
         × IsFreshBook desk.calls desk.notes.book.book
         × AreShown H.opening H.cap H.terms H.before H.word.shards desk.calls desk.notes.book.book
-            desk.notes.seen };
+        desk.notes.seen };
 }
 
 impl<'a, K: Keeper, H: BoundName, C: Clock, G: Gate, R: Wait> BoundDesk<'a, K, H, C, G, R> {

@@ -117,9 +117,14 @@ pub always_served : (opening : Tables) (shards : ℕ) (calls : List Exchange) (s
     → AreServed Runs opening shards calls seen → AreServed Always opening shards calls seen
 always_served opening shards [] seen run h = tt
 always_served opening shards (Asked who (wanted.Get key floor) (Reply.Got (got.Hit value stamp)) ∷ calls) seen run h =
-    let now = running_before h.1 seen h.3 run in
-    (h.0, h.1, h.2, h.3, hit_always opening shards calls h.0 h.1 key floor value stamp now h.4,
-    always_served opening shards calls h.0 (running_before h.0 h.1 h.2 now) h.5)
+    let now = running_before h.1 seen h.3 run in (
+      h.0,
+      h.1,
+      h.2,
+      h.3,
+      hit_always opening shards calls h.0 h.1 key floor value stamp now h.4,
+      always_served opening shards calls h.0 (running_before h.0 h.1 h.2 now) h.5,
+    )
 always_served opening shards (call ∷ calls) seen run h = (h.0, h.1, always_served opening shards calls h.0 (running_before h.0 seen h.1 run) h.2)
 
 -- rows that are told are there
@@ -157,13 +162,19 @@ module _ (opening : Tables) (cap : ℕ) (terms : ℕ → Terms) (before : ℕ �
       → (calls : List Exchange) (book : Book) (seen : Seen) → AreShown opening cap terms before shards calls book seen → AreServed Runs opening shards calls seen
   served_calls own older [] book seen h = tt
   served_calls own older (Asked who (wanted.Get key floor) (Reply.Got (got.Hit value stamp)) ∷ calls) book seen h =
-      let answered = h.4 in
-      (h.1, h.2, answered.begins, h.3, record {
-        fresh = served_fresh opening before shards who key floor h.1 h.2 value stamp answered.belongs answered.begins
-            (get_shown who key floor (Reply.Got (got.Hit value stamp)) h.0 book h.1 h.2 answered.way answered.by_book answered.shown);
-        own = own calls h.0 h.1 h.2 key stamp h.5;
-        no_older = older calls h.0 h.1 h.2 key stamp h.5;
-      }, served_calls own older calls h.0 h.1 h.5)
+      let answered = h.4 in (
+        h.1,
+        h.2,
+        answered.begins,
+        h.3,
+        record {
+          fresh = served_fresh opening before shards who key floor h.1 h.2 value stamp answered.belongs answered.begins
+              (get_shown who key floor (Reply.Got (got.Hit value stamp)) h.0 book h.1 h.2 answered.way answered.by_book answered.shown);
+          own = own calls h.0 h.1 h.2 key stamp h.5;
+          no_older = older calls h.0 h.1 h.2 key stamp h.5;
+        },
+        served_calls own older calls h.0 h.1 h.5,
+      )
   served_calls own older (Began writes who ∷ calls) book seen h = (h.2, h.3, served_calls own older calls h.1 h.2 h.4)
   served_calls own older (Asked who request reply ∷ calls) book seen h =
       (h.1, beginning_trans h.1 h.2 seen h.4.begins h.3, served_calls own older calls h.0 h.1 h.5)
