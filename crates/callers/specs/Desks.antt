@@ -1,6 +1,6 @@
 -- What a caller of a server's desk concludes of a hit.
-use Rattle.std.specs.Prelude.{ℕ, ◌≡◌, ◌≤◌, ◌<◌, ◌==◌, ◌&&◌, Bool, true, false, List, [], ◌∷◌, length, slice_get, Option, Some, None}
-use Rattle.std.specs.List.{list_any, Any}
+use Rattle.std.specs.Prelude.{ℕ, ◌≡◌, ◌⊎◌, ◌≤◌, ◌<◌, ◌==◌, ◌&&◌, Bool, true, false, List, [], ◌∷◌, length, slice_get, Option, Some, None}
+use Rattle.std.specs.List.{list_any}
 use Rattle.rows_model.specs.declared.changes.Change.{Change}
 use Rattle.rows_model.specs.declared.keys.QKey.{QKey}
 use Rattle.rows_model.specs.declared.keys.Sid.{Sid}
@@ -79,11 +79,16 @@ pub record ToldRelease (key : QKey) (who : Sid) (call : Exchange) : Type 0 where
   pub is : call ≡ Asked asking request (Reply.Rel (rel.Released evicted))
   pub releases_it : Releases grant request
 
+-- One of these calls is so.
+abbrev pub AnyCall : (Exchange → Type 0) → List Exchange → Type 0
+AnyCall P [] = ⊥
+AnyCall P (call ∷ calls) = P call ⊎ AnyCall P calls
+
 -- A hit of this stamp holds what the desk was told itself: each commit on the key, of a session whose release of the key
 -- was told too.
 abbrev pub HoldsOwn : List Exchange → QKey → ℕ → Type 0
 HoldsOwn calls key stamp =
-    (who : Sid) (number : ℕ) (txn : List Change) → Any (ToldCommit who number txn) calls → Any (ToldRelease key who) calls
+    (who : Sid) (number : ℕ) (txn : List Change) → AnyCall (ToldCommit who number txn) calls → AnyCall (ToldRelease key who) calls
     → touches txn key ≡ true → number ≤ stamp
 
 -- A hit of this stamp holds each commit on the key that one of the first stamp holds.
