@@ -73,7 +73,7 @@ right_one true b is = refl
 right_one false b is = is
 
 -- what was seen before is seen behind
-still_among : (p : Short → Bool) (old new : List Short) → IsStart old new → list_any p old ≡ true → list_any p new ≡ true
+pub still_among : (p : Short → Bool) (old new : List Short) → IsStart old new → list_any p old ≡ true → list_any p new ≡ true
 still_among p old new start is =
     ap (λ (l : List Short). list_any p l) start.1 ∙ list_any-append p start.0 old ∙ right_one (list_any p start.0) (list_any p old) is
 
@@ -155,26 +155,23 @@ module _ (opening : Tables) (cap : ℕ) (terms : ℕ → Terms) (before : ℕ �
   get_shown who key floor reply since book old new (Err back) by_book shown = absurd by_book.0
 
   -- what calls show says that their hits are fresh; of a caller's own writes and of earlier reads it is a premise yet
-  pub served_calls : ((calls : List Exchange) (book : Book) (seen after : Seen) (key : QKey) (stamp : ℕ) → AreShown opening cap terms before shards calls book seen
+  pub served_calls : ((calls : List Exchange) (book : Book) (seen after : Seen) (key : QKey) (floor : ℕ) (value : List ℕ) (stamp : ℕ)
+      → AreShown opening cap terms before shards calls book seen → IsBeginning seen after → IsServedFresh Runs opening shards seen after key floor value stamp
       → Runs after → HoldsOwn calls key stamp)
-      → ((calls : List Exchange) (book : Book) (seen after : Seen) (key : QKey) (stamp : ℕ) → AreShown opening cap terms before shards calls book seen
+      → ((calls : List Exchange) (book : Book) (seen after : Seen) (key : QKey) (floor : ℕ) (value : List ℕ) (stamp : ℕ)
+      → AreShown opening cap terms before shards calls book seen → IsBeginning seen after → IsServedFresh Runs opening shards seen after key floor value stamp
       → Runs after → IsNoOlderThan calls (commits_of after.events) key stamp)
       → (calls : List Exchange) (book : Book) (seen : Seen) → AreShown opening cap terms before shards calls book seen → AreServed Runs opening shards calls seen
   served_calls own older [] book seen h = tt
   served_calls own older (Asked who (wanted.Get key floor) (Reply.Got (got.Hit value stamp)) ∷ calls) book seen h =
-      let answered = h.4 in (
-        h.1,
-        h.2,
-        answered.begins,
-        h.3,
-        record {
-          fresh = served_fresh opening before shards who key floor h.1 h.2 value stamp answered.belongs answered.begins
-              (get_shown who key floor (Reply.Got (got.Hit value stamp)) h.0 book h.1 h.2 answered.way answered.by_book answered.shown);
-          own = own calls h.0 h.1 h.2 key stamp h.5;
-          no_older = older calls h.0 h.1 h.2 key stamp h.5;
-        },
-        served_calls own older calls h.0 h.1 h.5,
-      )
+      let answered = h.4 in
+      let fresh = served_fresh opening before shards who key floor h.1 h.2 value stamp answered.belongs answered.begins
+      (get_shown who key floor (Reply.Got (got.Hit value stamp)) h.0 book h.1 h.2 answered.way answered.by_book answered.shown) in
+      (h.1, h.2, answered.begins, h.3, record {
+        fresh = fresh;
+        own = own calls h.0 h.1 h.2 key floor value stamp h.5 answered.begins fresh;
+        no_older = older calls h.0 h.1 h.2 key floor value stamp h.5 answered.begins fresh;
+      }, served_calls own older calls h.0 h.1 h.5)
   served_calls own older (Began writes who ∷ calls) book seen h = (h.2, h.3, served_calls own older calls h.1 h.2 h.4)
   served_calls own older (Asked who request reply ∷ calls) book seen h =
       (h.1, beginning_trans h.1 h.2 seen h.4.begins h.3, served_calls own older calls h.0 h.1 h.5)
