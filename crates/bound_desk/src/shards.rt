@@ -79,7 +79,10 @@ impl<H: BoundName> BoundBook<H> {
         ensures same { IfNone result (shard.new.shard ≡ shard.old.shard) }
     {
         match self.get_hit(word, shard, key, who, floor) {
-            Some(got) => Some(Reply::Got { got }),
+            Some(got) => {
+                self.note_got(who, key, &got);
+                Some(Reply::Got { got })
+            }
             None => None,
         }
     }
