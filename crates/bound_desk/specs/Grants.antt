@@ -4,7 +4,7 @@ use Rattle.rows_model.specs.declared.keys.QKey.{QKey}
 use Rattle.rows_model.specs.declared.keys.Sid.{Sid}
 use Rattle.rows_model.specs.Placement.{shard_of}
 use Rattle.lease_table.specs.declared.records.Mode.{Mode}
-use Rattle.lease_table.specs.declared.records.Mode.TheVariants.{Invalidate, Refresh, Delta}
+use Rattle.lease_table.specs.declared.records.Mode.TheVariants.{Refresh}
 use Rattle.key_shard.specs.declared.replies.QAnswer.{QAnswer}
 use Rattle.key_shard.specs.declared.replies.QAnswer.TheVariants as quarantine
 use Rattle.key_shard.specs.declared.replies.Raising.{Raising}

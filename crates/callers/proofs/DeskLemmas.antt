@@ -34,7 +34,7 @@ use Rattle.desk_book.specs.declared.forms.Form.TheVariants as form
 use Rattle.desk_book.specs.declared.made.Made.{Made}
 use Rattle.desk_book.specs.declared.made.Made.TheVariants as made
 use Rattle.key_shard.specs.Past.{Terms}
-use Rattle.callers.specs.Desks.{releases, Always, AreServed, HoldsOwn, IsNoOlderThan, IsServedFresh, IsServedHit, Runs}
+use Rattle.callers.specs.Desks.{releases, Always, AreServed, HoldsOwn, IsNoOlderThan, IsServedFresh, IsServedHit, IsRunning}
 
 -- a step that releases the key in short releases it
 releases_it : (key : QKey) (who : Sid) (s : Step) (has : Bool) → releases key who.number (short_of s has) ≡ true → fresh.releases key who s ≡ true
@@ -80,7 +80,7 @@ still_among p old new start is =
 pub served_fresh : (opening : Tables) (before : ℕ → List Step) (shards : ℕ) (who : Sid) (key : QKey) (floor : ℕ) (old new : Seen) (value : List ℕ) (stamp : ℕ)
     → Belongs who (wanted.Get key floor) (Reply.Got (got.Hit value stamp)) → IsBeginning old new
     → ShowsReply opening before shards who (wanted.Get key floor) (Reply.Got (got.Hit value stamp)) new
-    → IsServedFresh Runs opening shards old new key floor value stamp
+    → IsServedFresh IsRunning opening shards old new key floor value stamp
 served_fresh opening before shards who key floor old new value stamp belongs begins shows = record {
   floor_met = belongs;
   known = λ running. (shows.1 running).2.known;
@@ -100,7 +100,7 @@ running_before early late begins run =
     ⊎_elim (λ is. absurd (false≢true (sym run ∙ begins.stopped is))) (λ no. no) (cases_Bool early.stopped)
 
 hit_always : (opening : Tables) (shards : ℕ) (calls : List Exchange) (before after : Seen) (key : QKey) (floor : ℕ) (value : List ℕ) (stamp : ℕ) → after.stopped ≡ false
-    → IsServedHit Runs opening shards calls before after key floor value stamp → IsServedHit Always opening shards calls before after key floor value stamp
+    → IsServedHit IsRunning opening shards calls before after key floor value stamp → IsServedHit Always opening shards calls before after key floor value stamp
 hit_always opening shards calls before after key floor value stamp run h = record {
   fresh = record {
     floor_met = h.fresh.floor_met;
@@ -114,7 +114,7 @@ hit_always opening shards calls before after key floor value stamp run h = recor
 
 -- so what is said of calls needs no premise then
 pub always_served : (opening : Tables) (shards : ℕ) (calls : List Exchange) (seen : Seen) → seen.stopped ≡ false
-    → AreServed Runs opening shards calls seen → AreServed Always opening shards calls seen
+    → AreServed IsRunning opening shards calls seen → AreServed Always opening shards calls seen
 always_served opening shards [] seen run h = tt
 always_served opening shards (Asked who (wanted.Get key floor) (Reply.Got (got.Hit value stamp)) ∷ calls) seen run h =
     let now = running_before h.1 seen h.3 run in (
@@ -156,12 +156,12 @@ module _ (opening : Tables) (cap : ℕ) (terms : ℕ → Terms) (before : ℕ �
 
   -- what calls show says that their hits are fresh; of a caller's own writes and of earlier reads it is a premise yet
   pub served_calls : ((calls : List Exchange) (book : Book) (seen after : Seen) (key : QKey) (floor : ℕ) (value : List ℕ) (stamp : ℕ)
-      → AreShown opening cap terms before shards calls book seen → IsBeginning seen after → IsServedFresh Runs opening shards seen after key floor value stamp
-      → Runs after → HoldsOwn calls key stamp)
+      → AreShown opening cap terms before shards calls book seen → IsBeginning seen after → IsServedFresh IsRunning opening shards seen after key floor value stamp
+      → IsRunning after → HoldsOwn calls key stamp)
       → ((calls : List Exchange) (book : Book) (seen after : Seen) (key : QKey) (floor : ℕ) (value : List ℕ) (stamp : ℕ)
-      → AreShown opening cap terms before shards calls book seen → IsBeginning seen after → IsServedFresh Runs opening shards seen after key floor value stamp
-      → Runs after → IsNoOlderThan calls (commits_of after.events) key stamp)
-      → (calls : List Exchange) (book : Book) (seen : Seen) → AreShown opening cap terms before shards calls book seen → AreServed Runs opening shards calls seen
+      → AreShown opening cap terms before shards calls book seen → IsBeginning seen after → IsServedFresh IsRunning opening shards seen after key floor value stamp
+      → IsRunning after → IsNoOlderThan calls (commits_of after.events) key stamp)
+      → (calls : List Exchange) (book : Book) (seen : Seen) → AreShown opening cap terms before shards calls book seen → AreServed IsRunning opening shards calls seen
   served_calls own older [] book seen h = tt
   served_calls own older (Asked who (wanted.Get key floor) (Reply.Got (got.Hit value stamp)) ∷ calls) book seen h =
       let answered = h.4 in

@@ -45,7 +45,7 @@ use Rattle.desk_book.specs.declared.made.Made.{Made}
 use Rattle.desk_book.specs.declared.made.Made.TheVariants as made
 use Rattle.bound_desk.specs.Shown.{ShowsDrop}
 use Rattle.bound_desk.specs.Told.{AreShown, IsAnswered, IsEndDrop, IsMadeBy, IsShownAs}
-use Rattle.callers.specs.Desks.{releases, AnyCall, HoldsOwn, IsServedFresh, Releases, Runs, ToldCommit, ToldRelease}
+use Rattle.callers.specs.Desks.{releases, AnyCall, HoldsOwn, IsServedFresh, HandsIn, IsRunning, ToldCommit, ToldRelease}
 use Rattle.callers.proofs.DeskLemmas.{still_among}
 
 stands_last : (log : List Commit) (last : Commit) → slice_get (log ++ last ∷ []) (length log) ≡ Some last
@@ -150,7 +150,7 @@ module _ (opening : Tables) (cap : ℕ) (terms : ℕ → Terms) (before : ℕ �
       dropped_seen grant evicted new
       (subst (λ a. ShowsDrop shards grant a new) (sym (same_rel (rel.Released evicted) h.answer h.told)) h.dropped)
 
-  made_release : (found : Form) (asking : Sid) (grant : Permit) (request : Wanted) (evicted : Option QKey) (since book : Book) (old new : Seen) → Releases grant request
+  made_release : (found : Form) (asking : Sid) (grant : Permit) (request : Wanted) (evicted : Option QKey) (since book : Book) (old new : Seen) → HandsIn grant request
       → IsShownAs opening cap terms before shards asking request (Reply.Rel (rel.Released evicted)) (Ok (made_in found asking request)) since book old new
       → IsReleaseSeen grant.key grant.sid new
   made_release (form.EndDrop session) asking grant (wanted.Dar one) evicted since book old new is shown =
@@ -179,7 +179,7 @@ module _ (opening : Tables) (cap : ℕ) (terms : ℕ → Terms) (before : ℕ �
       (last_released one (release_short one.key one.sid one.token (hows.Shift stamp) (rel.Released evicted) last.0) new refl refl refl last.1)
   made_release found asking grant other evicted since book old new is shown = absurd is
 
-  release_by : (asking : Sid) (grant : Permit) (request : Wanted) (evicted : Option QKey) (since book : Book) (old new : Seen) (way : Result Made Wanted) → Releases grant request
+  release_by : (asking : Sid) (grant : Permit) (request : Wanted) (evicted : Option QKey) (since book : Book) (old new : Seen) (way : Result Made Wanted) → HandsIn grant request
       → IsMadeBy since asking request way → IsShownAs opening cap terms before shards asking request (Reply.Rel (rel.Released evicted)) way since book old new
       → IsReleaseSeen grant.key grant.sid new
   release_by asking grant request evicted since book old new (Ok one) is by_book shown =
@@ -211,8 +211,8 @@ module _ (opening : Tables) (cap : ℕ) (terms : ℕ → Terms) (before : ℕ �
 
   -- so a fresh hit holds what was told before
   pub holds_own : (calls : List Exchange) (book : Book) (seen after : Seen) (key : QKey) (floor : ℕ) (value : List ℕ) (stamp : ℕ)
-      → AreShown opening cap terms before shards calls book seen → IsBeginning seen after → IsServedFresh Runs opening shards seen after key floor value stamp
-      → Runs after → HoldsOwn calls key stamp
+      → AreShown opening cap terms before shards calls book seen → IsBeginning seen after → IsServedFresh IsRunning opening shards seen after key floor value stamp
+      → IsRunning after → HoldsOwn calls key stamp
   holds_own calls book seen after key floor value stamp h begins fresh run = λ who number txn committed released touched.
       let placed = own_commit who number txn after calls book seen h begins committed in
       let seen_release = own_release key who seen calls book seen h (beginning_same seen) released in

@@ -44,8 +44,8 @@ pub record IsServedFresh (sure : Seen → Type 0) (opening : Tables) (shards : �
       → place < stamp
 
 -- It isn't seen that the store has stopped telling its rows.
-abbrev pub Runs : Seen → Type 0
-Runs seen = seen.stopped ≡ false
+abbrev pub IsRunning : Seen → Type 0
+IsRunning seen = seen.stopped ≡ false
 
 -- Nothing is asked of what is seen.
 abbrev pub Always : Seen → Type 0
@@ -60,12 +60,12 @@ pub record ToldCommit (who : Sid) (number : ℕ) (txn : List Change) (call : Exc
 
 -- The request hands in the grant to be spent: with a new value one that is to refresh, and to shift a count one that is to
 -- shift.
-abbrev pub Releases : Permit → Wanted → Type 0
-Releases grant (wanted.Dar one) = one ≡ grant
-Releases grant (wanted.Sar one None stamp) = one ≡ grant
-Releases grant (wanted.Sar one (Some value) stamp) = (one ≡ grant) × (grant.mode ≡ Refresh)
-Releases grant (wanted.Apply one stamp) = (one ≡ grant) × (grant.mode ≡ Delta) × (is_count grant.key ≡ true)
-Releases grant other = ⊥
+abbrev pub HandsIn : Permit → Wanted → Type 0
+HandsIn grant (wanted.Dar one) = one ≡ grant
+HandsIn grant (wanted.Sar one None stamp) = one ≡ grant
+HandsIn grant (wanted.Sar one (Some value) stamp) = (one ≡ grant) × (grant.mode ≡ Refresh)
+HandsIn grant (wanted.Apply one stamp) = (one ≡ grant) × (grant.mode ≡ Delta) × (is_count grant.key ≡ true)
+HandsIn grant other = ⊥
 
 -- A call told that this session's quarantine of this key was released: its value was dropped, or a new one was put in its
 -- place, or it was shifted.
@@ -77,7 +77,7 @@ pub record ToldRelease (key : QKey) (who : Sid) (call : Exchange) : Type 0 where
   pub evicted : Option QKey
   pub request : Wanted
   pub is : call ≡ Asked asking request (Reply.Rel (rel.Released evicted))
-  pub releases_it : Releases grant request
+  pub releases_it : HandsIn grant request
 
 -- One of these calls is so.
 abbrev pub AnyCall : (Exchange → Type 0) → List Exchange → Type 0

@@ -2,7 +2,7 @@
 //! what the desk knew then, holds the caller's own writes, and is no older than an earlier one.
 ghost use Rattle.std.specs.Prelude.{◌≡◌, All, List};
 ghost use Rattle.session_client.specs.Desks.{Exchange};
-ghost use Rattle.callers.specs.Desks.{Always, AreServed, Runs};
+ghost use Rattle.callers.specs.Desks.{Always, AreServed, IsRunning};
 
 use bound_desk::BoundDesk;
 use bound_hub::{BoundHub, BoundName};
@@ -23,7 +23,7 @@ pub fn desk_served<K: Keeper, H: BoundName, C: Clock, G: Gate, R: Wait>(
     desk: BoundDesk<'_, K, H, C, G, R>,
 ) -> Pass
     ensures word { result.word ≡ H.word }
-    ensures served { AreServed Runs H.opening H.word.shards desk.calls result.seen }
+    ensures served { AreServed IsRunning H.opening H.word.shards desk.calls result.seen }
 {
     desk.into_pass()
 }
@@ -36,7 +36,7 @@ pub fn desks_served<K: Telling, H: BoundName>(
 ) -> (K, Rows, CommitLog, Vec<Shard>)
     requires { All (λ pass. pass.word ≡ H.word) passes.items }
     ensures { All (λ pass. (calls : List Exchange) →
-        AreServed Runs H.opening H.word.shards calls pass.seen →
+        AreServed IsRunning H.opening H.word.shards calls pass.seen →
         AreServed Always H.opening H.word.shards calls pass.seen) passes.items }
 {
     let (store, shards) = hub.into_parts(passes);
