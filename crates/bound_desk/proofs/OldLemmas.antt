@@ -1,5 +1,5 @@
 -- An old value comes along exactly where the key has an entry behind the step; what a refusal of a shard shows.
-use Rattle.std.proofs.Common.{ℕ, ℤ, ◌≡◌, Bool, true, false, List, ◌∷◌, Option, Some, None, Result, Ok, Err, IfOk, OnOk, is_some, refl, sym, ap, subst, ◌∙◌}
+use Rattle.std.proofs.Common.{ℕ, ℤ, ◌≡◌, ◌≢◌, Bool, true, false, List, ◌∷◌, Option, Some, None, Result, Ok, Err, IfOk, OnOk, is_some, refl, sym, ap, subst, ◌∙◌}
 use Rattle.std.proofs.lemmas.Bool.{false≢true}
 use Rattle.rows_model.specs.declared.keys.QKey.{QKey}
 use Rattle.rows_model.specs.declared.keys.Sid.{Sid}
@@ -9,6 +9,8 @@ use Rattle.lease_table.specs.declared.records.Mode.TheVariants.{Invalidate, Refr
 use Rattle.key_shard.specs.declared.replies.QAnswer.{QAnswer}
 use Rattle.key_shard.specs.declared.replies.Raising.{Raising}
 use Rattle.key_shard.specs.declared.replies.Raising.TheVariants as raising
+use Rattle.key_shard.specs.declared.replies.Renewal.{Renewal}
+use Rattle.key_shard.specs.declared.replies.Renewal.TheVariants as renewal
 use Rattle.key_shard.specs.declared.replies.ShardFault.{ShardFault}
 use Rattle.key_shard.specs.declared.replies.ShardFault.TheVariants as faults
 use Rattle.key_shard.specs.declared.steps.Step.{Step}
@@ -24,7 +26,7 @@ use Rattle.log_word.specs.declared.seen.Seen.{Seen}
 use Rattle.bound_hub.specs.Gets.{IsLastStep}
 use Rattle.bound_hub.specs.Shorts.{granted_short, raised_short}
 use Rattle.bound_hub.specs.Spent.{SeesSpent}
-use Rattle.bound_hub.specs.StepShorts.{quarantine_short, raise_short}
+use Rattle.bound_hub.specs.StepShorts.{quarantine_short, raise_short, renew_short}
 use Rattle.bound_desk.specs.Faults.{SeesRefusal}
 use Rattle.bound_desk.specs.Grants.{IsOldTold, IsRaiseTold}
 
@@ -108,3 +110,19 @@ pub refused_is_shown : (terms : ℕ → Terms) (before : ℕ → List Step) (sha
 refused_is_shown terms before shards key (faults.Spent next) seen h = h
 refused_is_shown terms before shards key faults.Memory seen h = tt
 refused_is_shown terms before shards key (faults.Stranger place) seen h = tt
+
+-- the step of a renewal is the last that is seen, unless it is gone
+renewed_if : {E : Type 0} (grant : Permit) (shards place : ℕ) (seen : Seen) (has : Bool) (result : Result Renewal E) → place ≡ shard_of grant.key shards
+    → IfOk result (λ answer. IsLastStep place (renew_short grant.key grant.sid grant.token answer has) seen)
+    → IfOk result (λ answer. answer ≢ renewal.Gone → (some : Bool) × IsLastStep (shard_of grant.key shards) (renew_short grant.key grant.sid grant.token answer some) seen)
+renewed_if grant shards place seen has (Ok answer) at last = λ _. (has, subst (λ n. IsLastStep n (renew_short grant.key grant.sid grant.token answer has) seen) at last)
+renewed_if grant shards place seen has (Err fault) at last = tt
+
+pub renewal_is_last : {E : Type 0} (out : Bool) (grant : Permit) (shards place : ℕ) (seen : Seen) (has : Bool) (result : Result Renewal E) → place ≡ shard_of grant.key shards
+    → (out ≡ true → IfOk result (λ answer. IsLastStep place (renew_short grant.key grant.sid grant.token answer has) seen))
+    → (out ≡ false → result ≡ Ok renewal.Gone)
+    → IfOk result (λ answer. answer ≢ renewal.Gone → (some : Bool) × IsLastStep (shard_of grant.key shards) (renew_short grant.key grant.sid grant.token answer some) seen)
+renewal_is_last true grant shards place seen has result at last gone = renewed_if grant shards place seen has result at (last refl)
+renewal_is_last false grant shards place seen has result at last gone =
+    subst (λ r. IfOk r (λ answer. answer ≢ renewal.Gone → (some : Bool) × IsLastStep (shard_of grant.key shards) (renew_short grant.key grant.sid grant.token answer some) seen))
+    (sym (gone refl)) (λ differs. absurd (differs refl))
