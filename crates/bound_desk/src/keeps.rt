@@ -112,7 +112,7 @@ impl<H: BoundName> BoundBook<H> {
         ensures made { IsMade self.old.quit shard.old.shard (wanted.Abort grant) result }
     {
         if !self.has_quit(grant.sid()) {
-            self.book.note_spent(who, &Ticket::of(&grant));
+            self.note_spent(who, &Ticket::of(&grant));
             grant.let_go();
             return Reply::Rel { answer: Rel::Gone };
         }

@@ -136,8 +136,8 @@ impl<H: BoundName> BoundBook<H> {
         self.book.note_raised(who, ticket, old);
     }
 
-    // Notes a grant that is spent.
-    fn note_spent(&mut self, who: Sid, ticket: &Ticket)
+    /// Notes a grant that is spent.
+    pub(crate) fn note_spent(&mut self, who: Sid, ticket: &Ticket)
         ensures seen { self.new.seen ≡ self.old.seen }
         ensures book { self.new.book.book
             ≡ noted_for who (without_grant ticket.now) self.old.book.book }
