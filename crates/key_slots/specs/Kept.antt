@@ -1,7 +1,6 @@
 -- How slots are kept in memory: a map from keys to slots, who has each slot, and the slots that were freed.
-use Rattle.std.specs.Prelude.{ℕ, ◌≡◌, ◌≤◌, ◌<◌, ◌+◌, ◌^◌, ◌↔◌, nat_eq, List, length, count_by, Option, Some, None, is_some, slice_index_or}
+use Rattle.std.specs.Prelude.{ℕ, ◌≡◌, ◌≤◌, ◌<◌, ◌+◌, ◌^◌, ◌↔◌, nat_eq, Vec, List, [], length, count_by, Option, Some, None, is_some, slice_index_or}
 use Rattle.std.specs.Map.{lookup}
-use Rattle.std.specs.Vec.{Vec}
 use Rattle.key_slots.specs.Slots.{IsSlotKey, is_same, holder_at}
 
 -- the slot that the map has for a key
