@@ -175,7 +175,7 @@ shown_stepped slots past item sound shown named =
     rest key (Some slot) apart has =
         let holds = (each_slot slots sound key slot).0 has in
         let far : slot ≡ named.slot → ⊥ =
-            λ same. apart (same_Some key item.key (sym holds ∙ ap (key_of slots) same ∙ named.has)) in
+        λ same. apart (same_Some key item.key (sym holds ∙ ap (key_of slots) same ∙ named.has)) in
         ap (λ (s : Seen). cond (is_held key item.evicted) (seen_out s) s) (shown.keys key ∙ ap (λ (o : Option ℕ). seen_at o past) has)
         ∙ ap (λ (b : Bool). cond b (seen_out (seen_below (slot_name slot) (below past))) (seen_below (slot_name slot) (below past)))
         (ap (is_held key) evicted_is ∙ sym (out_alike slots key slot named.from sound holds))

@@ -6,8 +6,8 @@ use Rattle.item_shard.specs.Items.{Item}
 pub data Shifting : Type 0 where
   Up : (by : ℕ) → Shifting
   Down : (by : ℕ) → Shifting
-  Behind : (data : List ℕ) → Shifting
-  Before : (data : List ℕ) → Shifting
+  Behind : (bytes : List ℕ) → Shifting
+  Before : (bytes : List ℕ) → Shifting
 
 -- How a command of memcached's stores: whatever there is, only where nothing is, only where something is, behind or before it, or only over the
 -- item of this unique.

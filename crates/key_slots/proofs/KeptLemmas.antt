@@ -60,7 +60,7 @@ found_changed {A} key o old new is others k = by (is_same key k) refl
         others (λ name. is_same k name.items)
         (λ (x y : Vec ℕ A) is. ap (λ (n : List ℕ). is_same n y.items) (same_bytes k x.items is))
         (λ (x : Vec ℕ A) is. same_not k x.items (λ e.
-            false≢true (sym apart ∙ ap (is_same key) (e ∙ sym (same_bytes key x.items is)) ∙ same_itself key)))
+        false≢true (sym apart ∙ ap (is_same key) (e ∙ sym (same_bytes key x.items is)) ∙ same_itself key)))
 
 -- a slot that stands among the freed ones is nobody's
 pub vacant_slot : (holders : List (Option (List ℕ))) (slot : ℕ) → 1 ≤ vacancy_at holders slot → (slot < length holders) × (holder_at holders slot ≡ None)
@@ -130,7 +130,7 @@ pub kept_given : {A : Type 0} {room cap : ℕ} {places placed : List (Vec ℕ A 
 kept_given {A} {room} {cap} {places} {placed} {holders} {free} kept rest slot key is fit none found =
     let at = last_free kept rest slot is in
     let holds : (s : ℕ) → holder_at (set holders slot (Some key)) s ≡ cond (nat_eq s slot) (Some key) (holder_at holders s) =
-        λ s. set_at holders slot s (Some key) None at.0 in
+    λ s. set_at holders slot s (Some key) None at.0 in
     let long = length-set holders slot (Some key) in
     let grown = ap (λ (l : List ℕ). length l) is ∙ length-append rest (slot ∷ []) in
     let set_one = count_set holders slot (Some key) at.0 in
@@ -153,7 +153,7 @@ kept_given {A} {room} {cap} {places} {placed} {holders} {free} kept rest slot ke
         let one : cond (nat_eq s slot) 1 0 ≡ 1 = cond-true (nat_eq s slot) 1 0 (eq-eqb s slot same) in
         let most : vacancy_at holders s ≤ 1 = at_most (get_or holders s (Some [])) in
         let now : vacancy_at (set holders slot (Some key)) s ≡ 0 =
-            ap vacancy (set_at holders slot s (Some key) (Some []) short ∙ cond-true (nat_eq s slot) (Some key) (get_or holders s (Some [])) (eq-eqb s slot same)) in
+        ap vacancy (set_at holders slot s (Some key) (Some []) short ∙ cond-true (nat_eq s slot) (Some key) (get_or holders s (Some [])) (eq-eqb s slot same)) in
         omega (arith, kept.freed s, whole, one, most, now)
       where
         at_most : (o : Option (List ℕ)) → vacancy o ≤ 1
@@ -163,7 +163,7 @@ kept_given {A} {room} {cap} {places} {placed} {holders} {free} kept rest slot ke
         let whole = ap (λ (l : List ℕ). count_by (nat_eq s) l) is ∙ count_behind s rest slot in
         let none : cond (nat_eq s slot) 1 0 ≡ 0 = cond-false (nat_eq s slot) 1 0 (ne_eqb s slot apart) in
         let now : vacancy_at (set holders slot (Some key)) s ≡ vacancy_at holders s =
-            ap vacancy (set_at holders slot s (Some key) (Some []) short ∙ cond-false (nat_eq s slot) (Some key) (get_or holders s (Some [])) (ne_eqb s slot apart)) in
+        ap vacancy (set_at holders slot s (Some key) (Some []) short ∙ cond-false (nat_eq s slot) (Some key) (get_or holders s (Some [])) (ne_eqb s slot apart)) in
         omega (arith, kept.freed s, whole, none, now)
 
 -- the first slot that no key has had is given
@@ -174,7 +174,7 @@ pub kept_next : {A : Type 0} {room cap : ℕ} {places placed : List (Vec ℕ A �
     → IsKept room placed (holders ++ Some key ∷ []) free now
 kept_next {A} {room} {cap} {places} {placed} {holders} {free} kept key now fit none some wide found =
     let holds : (s : ℕ) → holder_at (holders ++ Some key ∷ []) s ≡ cond (nat_eq s (length holders)) (Some key) (holder_at holders s) =
-        λ s. add_at holders s (Some key) None in
+    λ s. add_at holders s (Some key) None in
     let long = length-append holders (Some key ∷ []) in
     let one = count_add holders key in
     record {
@@ -212,7 +212,7 @@ pub kept_freed : {A : Type 0} {room cap : ℕ} {places placed : List (Vec ℕ A 
     → IsKept room placed (set holders slot None) (free ++ slot ∷ []) cap
 kept_freed {A} {room} {cap} {places} {placed} {holders} {free} kept slot key short had found =
     let holds : (s : ℕ) → holder_at (set holders slot None) s ≡ cond (nat_eq s slot) None (holder_at holders s) =
-        λ s. set_at holders slot s None None short in
+    λ s. set_at holders slot s None None short in
     let long = length-set holders slot None in
     let grown = length-append free (slot ∷ []) in
     let one = count_set holders slot None short in
@@ -232,13 +232,13 @@ kept_freed {A} {room} {cap} {places} {placed} {holders} {free} kept slot key sho
         let whole = count_behind s free slot in
         let one : cond (nat_eq s slot) 1 0 ≡ 1 = cond-true (nat_eq s slot) 1 0 (eq-eqb s slot same) in
         let was : vacancy_at holders s ≡ 0 =
-            ap (λ (n : ℕ). vacancy_at holders n) same ∙ ap vacancy (get_or_default holders slot (Some []) None short ∙ had) in
+        ap (λ (n : ℕ). vacancy_at holders n) same ∙ ap vacancy (get_or_default holders slot (Some []) None short ∙ had) in
         let now : vacancy_at (set holders slot None) s ≡ 1 =
-            ap vacancy (set_at holders slot s None (Some []) short ∙ cond-true (nat_eq s slot) None (get_or holders s (Some [])) (eq-eqb s slot same)) in
+        ap vacancy (set_at holders slot s None (Some []) short ∙ cond-true (nat_eq s slot) None (get_or holders s (Some [])) (eq-eqb s slot same)) in
         omega (arith, kept.freed s, whole, one, was, now)
     left s (inr apart) =
         let whole = count_behind s free slot in
         let none : cond (nat_eq s slot) 1 0 ≡ 0 = cond-false (nat_eq s slot) 1 0 (ne_eqb s slot apart) in
         let now : vacancy_at (set holders slot None) s ≡ vacancy_at holders s =
-            ap vacancy (set_at holders slot s None (Some []) short ∙ cond-false (nat_eq s slot) None (get_or holders s (Some [])) (ne_eqb s slot apart)) in
+        ap vacancy (set_at holders slot s None (Some []) short ∙ cond-false (nat_eq s slot) None (get_or holders s (Some [])) (ne_eqb s slot apart)) in
         omega (arith, kept.freed s, whole, none, now)

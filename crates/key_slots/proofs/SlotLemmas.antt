@@ -145,17 +145,20 @@ agree_given place placed holder held key slot agree out nobody places holds k s 
   where
     by : (b : Bool) → is_same key k ≡ b → (s ≡ slot) ⊎ (s ≡ slot → ⊥) → (placed k ≡ Some s) ↔ (held s ≡ Some k)
     by true same (inl is) =
-        let k_is = same_bytes key k same in
-        (λ _. holds s ∙ cond-true (nat_eq s slot) (Some key) (holder s) (eq-eqb s slot is) ∙ ap (λ (n : List ℕ). Some n) k_is,
-        λ _. places k ∙ cond-true (is_same key k) (Some slot) (place k) same ∙ ap (λ (n : ℕ). Some n) (sym is))
+        let k_is = same_bytes key k same in (
+          λ _. holds s ∙ cond-true (nat_eq s slot) (Some key) (holder s) (eq-eqb s slot is) ∙ ap (λ (n : List ℕ). Some n) k_is,
+          λ _. places k ∙ cond-true (is_same key k) (Some slot) (place k) same ∙ ap (λ (n : ℕ). Some n) (sym is),
+        )
     by true same (inr apart) =
-        let k_is = same_bytes key k same in
-        (λ p. absurd (apart (sym (same_Some slot s (sym (places k ∙ cond-true (is_same key k) (Some slot) (place k) same) ∙ p)))),
-        λ h. absurd (not_none s (sym ((agree key s).1 (sym (holds s ∙ cond-false (nat_eq s slot) (Some key) (holder s) (ne_eqb s slot apart)) ∙ h
-        ∙ ap (λ (n : List ℕ). Some n) (sym k_is))) ∙ out)))
-    by false other (inl is) =
-        (λ p. absurd (not_none k (sym ((agree k slot).0 (sym (places k ∙ cond-false (is_same key k) (Some slot) (place k) other) ∙ p ∙ ap (λ (n : ℕ). Some n) is)) ∙ nobody)),
-        λ h. absurd (false≢true (sym other ∙ ap (is_same key) (sym (same_Some key k (sym (holds s ∙ cond-true (nat_eq s slot) (Some key) (holder s) (eq-eqb s slot is)) ∙ h))) ∙ same_itself key)))
+        let k_is = same_bytes key k same in (
+          λ p. absurd (apart (sym (same_Some slot s (sym (places k ∙ cond-true (is_same key k) (Some slot) (place k) same) ∙ p)))),
+          λ h. absurd (not_none s (sym ((agree key s).1 (sym (holds s ∙ cond-false (nat_eq s slot) (Some key) (holder s) (ne_eqb s slot apart)) ∙ h
+              ∙ ap (λ (n : List ℕ). Some n) (sym k_is))) ∙ out)),
+        )
+    by false other (inl is) = (
+      λ p. absurd (not_none k (sym ((agree k slot).0 (sym (places k ∙ cond-false (is_same key k) (Some slot) (place k) other) ∙ p ∙ ap (λ (n : ℕ). Some n) is)) ∙ nobody)),
+      λ h. absurd (false≢true (sym other ∙ ap (is_same key) (sym (same_Some key k (sym (holds s ∙ cond-true (nat_eq s slot) (Some key) (holder s) (eq-eqb s slot is)) ∙ h))) ∙ same_itself key)),
+    )
     by false other (inr apart) =
         let was = places k ∙ cond-false (is_same key k) (Some slot) (place k) other in
         let had = holds s ∙ cond-false (nat_eq s slot) (Some key) (holder s) (ne_eqb s slot apart) in
@@ -169,18 +172,21 @@ pub agree_freed : (place placed : List ℕ → Option ℕ) (holder held : ℕ �
 agree_freed place placed holder held key slot agree had places holds k s = by (is_same key k) refl (cases_eq s slot)
   where
     by : (b : Bool) → is_same key k ≡ b → (s ≡ slot) ⊎ (s ≡ slot → ⊥) → (placed k ≡ Some s) ↔ (held s ≡ Some k)
-    by true same (inl is) =
-        (λ p. absurd (not_none s (sym p ∙ places k ∙ cond-true (is_same key k) None (place k) same)),
-        λ h. absurd (not_none k (sym h ∙ holds s ∙ cond-true (nat_eq s slot) None (holder s) (eq-eqb s slot is))))
+    by true same (inl is) = (
+      λ p. absurd (not_none s (sym p ∙ places k ∙ cond-true (is_same key k) None (place k) same)),
+      λ h. absurd (not_none k (sym h ∙ holds s ∙ cond-true (nat_eq s slot) None (holder s) (eq-eqb s slot is))),
+    )
     by true same (inr apart) =
-        let k_is = same_bytes key k same in
-        (λ p. absurd (not_none s (sym p ∙ places k ∙ cond-true (is_same key k) None (place k) same)),
-        λ h. absurd (apart (same_Some s slot (sym ((agree key s).1 (sym (holds s ∙ cond-false (nat_eq s slot) None (holder s) (ne_eqb s slot apart)) ∙ h
-        ∙ ap (λ (n : List ℕ). Some n) (sym k_is))) ∙ (agree key slot).1 had))))
-    by false other (inl is) =
-        (λ p. absurd (false≢true (sym other ∙ ap (is_same key) (sym (same_Some key k (sym had
-        ∙ (agree k slot).0 (sym (places k ∙ cond-false (is_same key k) None (place k) other) ∙ p ∙ ap (λ (n : ℕ). Some n) is)))) ∙ same_itself key)),
-        λ h. absurd (not_none k (sym h ∙ holds s ∙ cond-true (nat_eq s slot) None (holder s) (eq-eqb s slot is))))
+        let k_is = same_bytes key k same in (
+          λ p. absurd (not_none s (sym p ∙ places k ∙ cond-true (is_same key k) None (place k) same)),
+          λ h. absurd (apart (same_Some s slot (sym ((agree key s).1 (sym (holds s ∙ cond-false (nat_eq s slot) None (holder s) (ne_eqb s slot apart)) ∙ h
+              ∙ ap (λ (n : List ℕ). Some n) (sym k_is))) ∙ (agree key slot).1 had))),
+        )
+    by false other (inl is) = (
+      λ p. absurd (false≢true (sym other ∙ ap (is_same key) (sym (same_Some key k (sym had
+          ∙ (agree k slot).0 (sym (places k ∙ cond-false (is_same key k) None (place k) other) ∙ p ∙ ap (λ (n : ℕ). Some n) is)))) ∙ same_itself key)),
+      λ h. absurd (not_none k (sym h ∙ holds s ∙ cond-true (nat_eq s slot) None (holder s) (eq-eqb s slot is))),
+    )
     by false other (inr apart) =
         let was = places k ∙ cond-false (is_same key k) None (place k) other in
         let held_was = holds s ∙ cond-false (nat_eq s slot) None (holder s) (ne_eqb s slot apart) in

@@ -52,7 +52,7 @@ impl KeySlots {
         ensures slot { result ≡ slot_of self.now key.now }
         ensures sound { IsSound self.now }
     {
-        Some(*self.places.get(key)?)
+        self.places.get(key).copied()
     }
 
     /// The key that has a slot, if one has it.
