@@ -19,9 +19,6 @@ use Rattle.key_slots.proofs.SlotLemmas.{given, freed, each_slot, same_bytes, sam
 use Rattle.item_shard.specs.Steps.{ItemStep, below, room_from, slot_name, Seen, nothing, seen_below, seen_after, seen_out, seen_of}
 use Rattle.item_shard.specs.Shown.{seen_at, IsShown, GivenSlotsShowAsNew, FreedSlotsShowNothing, key_from, option_name, IsNamed, StepsShowOfTheirKey}
 
-seen : List Quar → Option ReadLease → Option (List ℕ × ℕ) → Seen
-seen quars reader found = record { quars = quars; reader = reader; found = found }
-
 -- what is seen of a name after a step
 pub seen_by : (step : Step) (name : QKey) (past : List Step) → seen_below name (step ∷ past) ≡ seen_after step name (seen_below name past)
 seen_by step name past = λ i. record { quars = standing_by step name past i; reader = recorded_by step name past i; found = entry_by step name past i }

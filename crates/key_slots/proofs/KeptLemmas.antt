@@ -58,9 +58,9 @@ found_changed {A} key o old new is others k = by (is_same key k) refl
     by true same = ap (λ (n : List ℕ). found_at n new) (sym (same_bytes key k same)) ∙ is
     by false apart =
         others (λ name. is_same k name.items)
-        (λ (x y : Vec ℕ A) is. ap (λ (n : List ℕ). is_same n y.items) (same_bytes k x.items is))
-        (λ (x : Vec ℕ A) is. same_not k x.items (λ e.
-        false≢true (sym apart ∙ ap (is_same key) (e ∙ sym (same_bytes key x.items is)) ∙ same_itself key)))
+        (λ x y found. ap (λ (n : List ℕ). is_same n y.items) (same_bytes k x.items found))
+        (λ x found. same_not k x.items (λ e.
+        false≢true (sym apart ∙ ap (is_same key) (e ∙ sym (same_bytes key x.items found)) ∙ same_itself key)))
 
 -- a slot that stands among the freed ones is nobody's
 pub vacant_slot : (holders : List (Option (List ℕ))) (slot : ℕ) → 1 ≤ vacancy_at holders slot → (slot < length holders) × (holder_at holders slot ≡ None)
@@ -77,8 +77,9 @@ vacant_slot holders slot once = by (get_or holders slot (Some [])) refl (cases_l
 -- how often a slot stands in a list with one more
 pub count_behind : (slot : ℕ) (free : List ℕ) (last : ℕ) → count_by (nat_eq slot) (free ++ last ∷ []) ≡ count_by (nat_eq slot) free + cond (nat_eq slot last) 1 0
 count_behind slot free last =
-    let f : ℕ → ℕ = λ n. cond (nat_eq slot n) 1 0 in
-    sum_by-append f free (last ∷ []) ∙ ap (λ (n : ℕ). count_by (nat_eq slot) free + n) (sum_by-cons f last [] ∙ omega arith)
+    let whole = sum_by-append (λ (n : ℕ). cond (nat_eq slot n) 1 0) free (last ∷ []) in
+    let one = sum_by-cons (λ (n : ℕ). cond (nat_eq slot n) 1 0) last [] in
+    omega (arith, whole, one)
 
 -- how many slots are taken after a change
 pub count_set : (holders : List (Option (List ℕ))) (slot : ℕ) (o : Option (List ℕ)) → slot < length holders
@@ -87,8 +88,9 @@ count_set holders slot o short = sum_by-set (λ (h : Option (List ℕ)). cond (i
 
 pub count_add : (holders : List (Option (List ℕ))) (key : List ℕ) → count_by is_some (holders ++ Some key ∷ []) ≡ count_by is_some holders + 1
 count_add holders key =
-    let f : Option (List ℕ) → ℕ = λ h. cond (is_some h) 1 0 in
-    sum_by-append f holders (Some key ∷ []) ∙ ap (λ (n : ℕ). count_by is_some holders + n) (sum_by-cons f (Some key) [] ∙ omega arith)
+    let whole = sum_by-append (λ (h : Option (List ℕ)). cond (is_some h) 1 0) holders (Some key ∷ []) in
+    let one = sum_by-cons (λ (h : Option (List ℕ)). cond (is_some h) 1 0) (Some key) [] in
+    omega (arith, whole, one)
 
 -- who may have a slot once one is given
 fit_given : (holders now : List (Option (List ℕ))) (slot : ℕ) (key : List ℕ) → IsSlotKey key
@@ -128,18 +130,18 @@ pub kept_given : {A : Type 0} {room cap : ℕ} {places placed : List (Vec ℕ A 
     → ((k : List ℕ) → found_at k placed ≡ cond (is_same key k) (Some slot) (found_at k places))
     → IsKept room placed (set holders slot (Some key)) rest cap
 kept_given {A} {room} {cap} {places} {placed} {holders} {free} kept rest slot key is fit none found =
-    let at = last_free kept rest slot is in
+    let last = last_free kept rest slot is in
     let holds : (s : ℕ) → holder_at (set holders slot (Some key)) s ≡ cond (nat_eq s slot) (Some key) (holder_at holders s) =
-    λ s. set_at holders slot s (Some key) None at.0 in
+    λ s. set_at holders slot s (Some key) None last.0 in
     let long = length-set holders slot (Some key) in
     let grown = ap (λ (l : List ℕ). length l) is ∙ length-append rest (slot ∷ []) in
-    let set_one = count_set holders slot (Some key) at.0 in
-    let before : cond (is_some (holder_at holders slot)) 1 0 ≡ 0 = ap (λ (o : Option (List ℕ)). cond (is_some o) 1 0) at.1 in
+    let set_one = count_set holders slot (Some key) last.0 in
+    let before : cond (is_some (holder_at holders slot)) 1 0 ≡ 0 = ap (λ (o : Option (List ℕ)). cond (is_some o) 1 0) last.1 in
     record {
       agree = agree_given (λ k. found_at k places) (λ k. found_at k placed) (holder_at holders) (holder_at (set holders slot (Some key))) key slot kept.agree
-          (kept_found kept key ∙ none) at.1 found holds;
+          (kept_found kept key ∙ none) last.1 found holds;
       fit = fit_given holders (set holders slot (Some key)) slot key fit kept.fit holds;
-      freed = λ s. left s (cases_eq s slot) at.0;
+      freed = λ s. left s (cases_eq s slot) last.0;
       counted = omega (arith, kept.counted, grown, set_one, before, long);
       within = omega (arith, kept.within, long);
       spare = omega (arith, kept.spare, long);

@@ -29,7 +29,7 @@ pub set_at : {X : Type 0} (xs : List X) (i j : ℕ) (y d : X) → i < length xs 
 set_at xs i j y d short = by (cases_eq j i)
   where
     by : (j ≡ i) ⊎ (j ≡ i → ⊥) → get_or (set xs i y) j d ≡ cond (nat_eq j i) y (get_or xs j d)
-    by (inl same) = rw same (get_or-set_same xs i y d short) ∙ sym (cond-true (nat_eq j i) y (get_or xs j d) (eq-eqb j i same))
+    by (inl same) = ap (λ (n : ℕ). get_or (set xs i y) n d) same ∙ get_or-set_same xs i y d short ∙ sym (cond-true (nat_eq j i) y (get_or xs j d) (eq-eqb j i same))
     by (inr apart) = get_or-set_other xs i j y d apart ∙ sym (cond-false (nat_eq j i) y (get_or xs j d) (ne_eqb j i apart))
 
 -- what an element is once one stands behind
