@@ -2,3 +2,4 @@ pub mod Items
 pub mod Steps
 pub mod Shown
 pub mod Requests
+pub mod Below
