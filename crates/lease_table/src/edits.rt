@@ -62,6 +62,16 @@ pub fn drop_read(leases: &mut LeaseMap, key: &QKey)
     ensures { PutsOn key.now [] [] leases.old leases.new }
 {
     leases.remove(key);
+    free_emptied(leases);
+}
+
+/// A map that was emptied keeps a node, and the heap what lies before that. So it is given back.
+fn free_emptied(leases: &mut LeaseMap)
+    ensures { Stays leases.old leases.new }
+{
+    if leases.is_empty() {
+        leases.clear();
+    }
 }
 
 /// Ends the quarantine on the key that has the token.
@@ -74,7 +84,7 @@ pub fn drop_quar(leases: &mut LeaseMap, key: &QKey, token: u64)
         return;
     };
     if !keeps_any_without(there, token) {
-        leases.remove(key);
+        drop_read(leases, key);
     }
 }
 
