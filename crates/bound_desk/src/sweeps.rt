@@ -1,13 +1,13 @@
 //! The sweep of a desk: what it found, and the pass that has seen that.
 ghost use Rattle.std.specs.Prelude.{◌≡◌, ◌≢◌, ◌≤◌, ◌<◌, true, None, IfOk, IfNone, IfSome};
 ghost use Rattle.lease_table.specs.Lapses.{NoneLapsed};
-ghost use Rattle.rows_model.specs.declared.keys.QKey.{QKey};
 ghost use Rattle.lease_table.specs.Expiry.{NoneDue, StandsDue};
 ghost use Rattle.key_shard.specs.Answers.{IsAtHome};
 ghost use Rattle.key_shard.specs.Past.{entry, recorded, standing};
 ghost use Rattle.key_shard.specs.Shards.{past_of};
 ghost use Rattle.log_word.specs.Steps.{IsBeginning};
 ghost use Rattle.bound_hub.specs.Stores.{ShowsEnd};
+ghost use Rattle.bound_desk.specs.Swept.{StaysButLeases};
 
 use bound_hub::{BoundName, BoundShard, BoundStore};
 use key_shard::Rel;
@@ -32,12 +32,7 @@ pub fn drop_lapsed<H: BoundName>(
     ensures most { IfOk result (λ count. count ≤ 64) }
     ensures all { IfOk result (λ count. count < 64 → shard.new.shard.terms.rolls ≡ true
         → NoneLapsed now (λ key. recorded key (past_of shard.new.shard))) }
-    ensures terms { shard.new.shard.terms ≡ shard.old.shard.terms }
-    ensures entries { (key : QKey)
-        → entry key (past_of shard.new.shard) ≡ entry key (past_of shard.old.shard) }
-    ensures quarantines { (key : QKey)
-        → standing key (past_of shard.new.shard) ≡ standing key (past_of shard.old.shard) }
-    ensures seen { IsBeginning shard.old.seen shard.new.seen }
+    ensures stays { StaysButLeases shard.old shard.new }
 {
     for count in 0..LAPSES {
         if shard.lapse(word, now)?.is_none() {
