@@ -1,8 +1,7 @@
 -- A shard stays but for its leases to read where none is dropped, where one is, and where several are.
-use Rattle.std.proofs.Common.{◌≡◌, ℕ, Option, Some, None, List, [], ◌∷◌, refl, sym, ap, subst, ◌∙◌}
+use Rattle.std.proofs.Common.{◌≡◌, ℕ, Option, Some, None, List, [], ◌∷◌, refl, ap, ◌∙◌}
 use Rattle.std.specs.Prelude.{IfSome, IfNone}
 use Rattle.std.proofs.lemmas.List.{reverse-append}
-use Rattle.rows_model.specs.declared.keys.QKey.{QKey}
 use Rattle.lease_table.specs.declared.records.Lapse.{Lapse}
 use Rattle.key_shard.specs.declared.steps.Step.{Step}
 use Rattle.key_shard.specs.declared.steps.Step.TheVariants as step
