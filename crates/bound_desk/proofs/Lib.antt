@@ -1,8 +1,9 @@
 pub mod BoundLemmas
+pub mod DropLemmas
 pub mod GrantNotes
-pub mod SafeLemmas
-pub mod SweepLemmas
-pub mod WritingLemmas
-pub mod WriteLemmas
 pub mod RaiseLemmas
 pub mod RecordLemmas
+pub mod SafeLemmas
+pub mod SweepLemmas
+pub mod WriteLemmas
+pub mod WritingLemmas

@@ -275,7 +275,7 @@ impl<'a, K: Keeper, H: BoundName, C: Clock, G: Gate, R: Wait> Desk
                     self.gate.at(self.worker, Point::Inside { shard });
                     let now = self.clock.now();
                     let found = self.sweep.scan(word, &mut *bound, now);
-                    drop_lapsed(word, &mut *bound, now);
+                    let _ = drop_lapsed(word, &mut *bound, now);
                     self.hub.note_due(shard, bound.next_look());
                     match found {
                         Some(due) => SweepReply::Found { shard, due },

@@ -1,33 +1,45 @@
 //! The sweep of a desk: what it found, and the pass that has seen that.
-ghost use Rattle.std.specs.Prelude.{◌≡◌, ◌≢◌, None, IfNone, IfSome};
+ghost use Rattle.std.specs.Prelude.{◌≡◌, ◌≢◌, ◌≤◌, ◌<◌, true, None, IfOk, IfNone, IfSome};
+ghost use Rattle.lease_table.specs.Lapses.{NoneLapsed};
 ghost use Rattle.lease_table.specs.Expiry.{NoneDue, StandsDue};
 ghost use Rattle.key_shard.specs.Answers.{IsAtHome};
-ghost use Rattle.key_shard.specs.Past.{entry, standing};
+ghost use Rattle.key_shard.specs.Past.{entry, recorded, standing};
 ghost use Rattle.key_shard.specs.Shards.{past_of};
 ghost use Rattle.log_word.specs.Steps.{IsBeginning};
 ghost use Rattle.bound_hub.specs.Stores.{ShowsEnd};
+ghost use Rattle.bound_desk.specs.Swept.{StaysButLeases};
 
 use bound_hub::{BoundName, BoundShard, BoundStore};
 use key_shard::Rel;
 use lease_table::Due;
 use log_word::{LogWord, Pass};
-use rows_model::{QKey, Sid};
+use rows_model::{Memory, QKey, Sid};
 use sql_keeper::{Closed, Keeper};
 use std::marker::{Model, PhantomData};
 
 /// How many leases to read one step of a sweep drops at most.
 const LAPSES: usize = 64;
 
-/// Drops leases to read on the shard that is lent that have lapsed, the earliest first, and no more than one
-/// step of a sweep may.
-pub fn drop_lapsed<H: BoundName>(word: &LogWord, shard: &mut BoundShard<H>, now: u64)
+/// Drops leases to read on the shard that is lent that have lapsed, the earliest first, and answers how many
+/// they were: as many as one step of a sweep may, or all that there are on a shard that rolls. Its entries
+/// and quarantines stay. Want of memory ends it early.
+pub fn drop_lapsed<H: BoundName>(
+    word: &LogWord,
+    shard: &mut BoundShard<H>,
+    now: u64,
+) -> Result<usize, Memory>
     requires { word.now ≡ H.word }
+    ensures most { IfOk result (λ count. count ≤ 64) }
+    ensures all { IfOk result (λ count. count < 64 → shard.new.shard.terms.rolls ≡ true
+        → NoneLapsed now (λ key. recorded key (past_of shard.new.shard))) }
+    ensures stays { StaysButLeases shard.old shard.new }
 {
-    for _ in 0..LAPSES {
-        if shard.lapse(word, now).is_none() {
-            return;
+    for count in 0..LAPSES {
+        if shard.lapse(word, now)?.is_none() {
+            return Ok(count);
         }
     }
+    Ok(LAPSES)
 }
 
 /// A quarantine that was past its deadline, the number of the shard on which it was found, and whether its

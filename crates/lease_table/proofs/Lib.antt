@@ -1,6 +1,7 @@
 pub mod ChangeLemmas
 pub mod CopyLemmas
 pub mod DueLemmas
+pub mod EmptiedLemmas
 pub mod IndexLemmas
 pub mod KeyLemmas
 pub mod LapseLemmas

@@ -1,6 +1,8 @@
 ghost use Rattle.std.specs.Prelude.{◌≡◌, [], ◌∷◌, ◌++◌, Some, OnOk, OnErr, IfOk, IfSome, IsTrue, filter, map, not};
 ghost use Rattle.lease_table.specs.Leases.{has_token};
-ghost use Rattle.lease_table.specs.Standing.{quars_of, reads_of, leases_on, has_any, changed, PutsOn, Stays, SameLeases};
+ghost use Rattle.std.specs.BTreeMap.{IsOrdered};
+ghost use Rattle.rows_model.specs.declared.keys.QKey.{QKey};
+ghost use Rattle.lease_table.specs.Standing.{key_cmp, quars_of, reads_of, leases_on, has_any, changed, PutsOn, Stays, SameLeases};
 
 use crate::records::{KeyLeases, LeaseMap, Mode, Quar, ReadLease};
 use rows_model::{Memory, QKey};
@@ -61,11 +63,29 @@ pub fn put_quar(leases: &mut LeaseMap, alloc: Global, key: QKey, quar: Quar) -> 
 pub fn drop_read(leases: &mut LeaseMap, key: &QKey)
     ensures { PutsOn key.now [] [] leases.old leases.new }
 {
-    leases.remove(key);
+    take_out(leases, key);
+    free_emptied(leases);
 }
 
 /// Ends the quarantine on the key that has the token.
 pub fn drop_quar(leases: &mut LeaseMap, key: &QKey, token: u64)
+    ensures { PutsOn key.now
+        (filter (λ q. not (has_token token q)) (quars_of (leases_on key.now leases.old)))
+        (reads_of (leases_on key.now leases.old)) leases.old leases.new }
+{
+    end_quar(leases, key, token);
+    free_emptied(leases);
+}
+
+/// Takes the key out, with all that is recorded on it.
+fn take_out(leases: &mut LeaseMap, key: &QKey)
+    ensures { PutsOn key.now [] [] leases.old leases.new }
+{
+    leases.remove(key);
+}
+
+/// Ends the quarantine on the key that has the token, and takes the key out where that was the last.
+fn end_quar(leases: &mut LeaseMap, key: &QKey, token: u64)
     ensures { PutsOn key.now
         (filter (λ q. not (has_token token q)) (quars_of (leases_on key.now leases.old)))
         (reads_of (leases_on key.now leases.old)) leases.old leases.new }
@@ -75,6 +95,17 @@ pub fn drop_quar(leases: &mut LeaseMap, key: &QKey, token: u64)
     };
     if !keeps_any_without(there, token) {
         leases.remove(key);
+    }
+}
+
+/// Gives back the node that a map keeps when it was emptied. The heap would keep what lies before that.
+fn free_emptied(leases: &mut LeaseMap)
+    requires { IsOrdered key_cmp leases.old }
+    ensures same { (key : QKey) → leases_on key leases.new ≡ leases_on key leases.old }
+    ensures ordered { IsOrdered key_cmp leases.new }
+{
+    if leases.is_empty() {
+        leases.clear();
     }
 }
 

@@ -64,6 +64,10 @@ impl Lapses {
             ≡ (if is_lapse lapse.now other then false else has_lapse other self.old) }
     {
         let _ = self.entries.remove(lapse);
+        if self.entries.is_empty() {
+            // An emptied set keeps a node, and the heap what lies before that.
+            self.entries.clear();
+        }
     }
 
     /// Takes out the entry of a lease to read the key, if it is one.

@@ -1,33 +1,30 @@
 -- The rows of the entries that a store answers so.
-use Rattle.std.proofs.Common.{ℕ, ◌≡◌, ◌≢◌, ◌<◌, ◌≤◌, ◌^◌, ◌||◌, inl, inr, Bool, true, false, cond, List, [], ◌∷◌, ◌++◌, length, reverse, map, filter, get_or, Option, Some, None, option_map}
+use Rattle.std.proofs.Common.{ℕ, ◌≡◌, ◌≢◌, ◌<◌, ◌≤◌, ◌^◌, inl, inr, Bool, true, false, cond, List, [], ◌∷◌, ◌++◌, length, reverse, map, filter, get_or, Option, Some, None, option_map}
 use Rattle.std.proofs.Common.{arith, refl, sym, ap, subst, ◌∙◌, append_assoc, append-nil}
-use Rattle.std.specs.Prelude.{All, AllPairs, IfOk, IsSome, Result, Ok, Err, nat_le, bytes_eq}
-use Rattle.std.specs.Global.{Vec}
+use Rattle.std.specs.Prelude.{All, AllPairs, IsSome, nat_le, bytes_eq}
 use Rattle.std.specs.Cmp.Lexicographic.{bytes_decides}
 use Rattle.std.specs.List.{filter_map, AllByRecursion, cons_option}
 use Rattle.std.proofs.lemmas.Bool.{and_parts, leb-true, or_parts}
-use Rattle.std.proofs.lemmas.List.{reverse-append, length-reverse, map-append}
+use Rattle.std.proofs.lemmas.List.{reverse-append, map-append}
 use Rattle.std.proofs.lemmas.List.Elements.{All-from_recursion, filter_map-append}
 use Rattle.std.proofs.lemmas.List.Kept.{AllPairs-cons}
 use Rattle.rows_model.specs.declared.keys.QKey.{QKey}
 use Rattle.rows_model.specs.Key.{same_key}
 use Rattle.rows_model.specs.Query.{answer}
 use Rattle.rows_model.specs.Rows.{Tables}
-use Rattle.rows_model.proofs.SameKey.{same_key-true, same_key-refl, same_key-swap}
+use Rattle.rows_model.proofs.SameKey.{same_key-refl}
 use Rattle.entry_table.specs.Entries.{Item, lookup, keys}
 use Rattle.entry_table.proofs.EntriesLemmas.{keys-nil, keys-cons}
 use Rattle.key_shard.specs.declared.steps.Step.{Step}
 use Rattle.key_shard.specs.Past.{entry, order}
 use Rattle.key_shard.specs.Answers.{IsAtHome, Legal}
 use Rattle.key_shard.specs.Shards.{ShardView, past_of}
-use Rattle.sql_keeper.specs.declared.faults.KeepFault.{KeepFault}
 use Rattle.shard_dump.specs.declared.rows.DumpRow.{DumpRow}
 use Rattle.shard_dump.specs.declared.rows.Dump.{Dump}
-use Rattle.shard_dump.specs.declared.heads.Head.{Head}
-use Rattle.shard_dump.specs.Texts.{head_text, rows_text, end_text, head_of, IsDumpText}
+use Rattle.shard_dump.specs.Texts.{head_text, rows_text, end_text}
 use Rattle.shard_dump.specs.Answered.{AreAmong, IsAnsweredText, answered_rows, entry_on, entry_row, entry_rows, is_answered, may_stand}
-use Rattle.shard_dump.proofs.ShardLemmas.{has, AreOnce, AreHome, order_once, order_home, order_few}
-use Rattle.shard_dump.proofs.DumpLemmas.{AreFound, all_found, filter_map-reverse, row_count}
+use Rattle.shard_dump.proofs.ShardLemmas.{has, AreOnce, order_once, order_home, order_few}
+use Rattle.shard_dump.proofs.DumpLemmas.{AreFound, all_found, filter_map-reverse}
 
 -- the row of an entry in a list
 abbrev pub row_in : Item → DumpRow
@@ -78,9 +75,6 @@ goes_with rows left item all h = λ more are.
 
 pub goes_without : (rows : List DumpRow) (left : List Item) (item : Item) (all : List DumpRow) → MayGoOn rows (left ++ item ∷ []) all → MayGoOn rows left all
 goes_without rows left item all h = λ more are. h more (subst (AreAmong more) (sym (next_back left item)) (inl are))
-
-pub among_itself : (all : List DumpRow) → MayGoOn [] [] all → AreAmong [] all
-among_itself all h = h [] refl
 
 -- the rows so far, with those of what is left that are right, are all that are
 abbrev pub TakesRight : Tables → List DumpRow → List Item → List DumpRow → Type 0

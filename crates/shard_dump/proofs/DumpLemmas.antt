@@ -151,7 +151,7 @@ all_differ log past (k ∷ ks) h =
         ks (apart k ks h.0) in
         all_pairs_push (λ (row later : DumpRow). row.key ≢ later.key) rows row rest others
 
-pub row_count : (h : QKey → Option DumpRow) (ks : List QKey) → length (filter_map h ks) ≤ length ks
+row_count : (h : QKey → Option DumpRow) (ks : List QKey) → length (filter_map h ks) ≤ length ks
 row_count h [] = omega arith
 row_count h (k ∷ ks) = by (h k) (row_count h ks)
   where

@@ -16,7 +16,7 @@ use Rattle.key_freshness.proofs.KnownLemmas.{stands-pushed, stands-within}
 use Rattle.key_shard.specs.Shards.{ShardView, kept_of, past_of}
 use Rattle.sql_keeper.specs.declared.faults.KeepFault.{KeepFault}
 use Rattle.sql_keeper.specs.declared.faults.KeepFault.TheVariants as causes
-use Rattle.sql_keeper.specs.Faults.{Counts, has_failed}
+use Rattle.sql_keeper.specs.Faults.{has_failed}
 use Rattle.sql_keeper.specs.Log.{rows_after}
 use Rattle.sql_keeper.specs.Stores.{Ledger, StoreView, rows_of, with_call}
 use Rattle.shard_lock.specs.Names.{AreAll, AreLegal, IsNamed, IsNamedStore}
@@ -228,10 +228,6 @@ called_rows false ledger = refl
 pub called_more : (failed : Bool) (ledger : Ledger) → ledger.failed ≤ 2 ^ 64 - 1 → ledger.failed ≤ (with_call failed ledger).failed
 called_more true ledger few = grind (arith, few)
 called_more false ledger few = omega arith
-
--- a call that failed had the count of faults rise
-pub called_rose : (before after : ℕ) → Counts true before after → Rose before after
-called_rose before after counts = counts.0
 
 -- it is the store that was named, as long as its ledger is
 pub still_named : (opening : Tables) (cap : ℕ) (known_rows : Option Tables) (start : Option ℕ) (was now : StoreView) (failed : Bool)

@@ -1,5 +1,5 @@
 use Rattle.std.proofs.Common.{rules, ◌≡◌, ◌++◌, ◌∷◌, ◌+◌, ◌<◌, ◌^◌, [], true, List, length, filter, refl, sym, ap, subst, ◌∙◌, append-nil, length-append, arith}
-use Rattle.std.specs.Prelude.{IsSome, Ok, All}
+use Rattle.std.specs.Prelude.{Ok, All}
 use Rattle.std.proofs.lemmas.List.Elements.{All-nil, All-cons, All-append}
 use Rattle.rows_model.specs.declared.keys.QKey.{QKey}
 use Rattle.entry_table.specs.Entries.{Item, keys}
@@ -8,7 +8,7 @@ use Rattle.key_shard.specs.Past.{order}
 use Rattle.key_shard.specs.Shards.{past_of}
 use Rattle.sql_keeper.specs.Stores.{Ledger, rows_of}
 use Rattle.shard_dump.specs.declared.rows.DumpRow.{DumpRow}
-use Rattle.shard_dump.specs.Answered.{AreAmong, entry_rows, is_answered, may_stand}
+use Rattle.shard_dump.specs.Answered.{AreAmong, is_answered, may_stand}
 use Rattle.shard_dump.proofs.DumpLemmas.{none_left}
 use Rattle.shard_dump.proofs.AnsweredLemmas.{MayGoOn, TakesRight, goes_with, right_rows, right_with, row_in, rows_are, rows_back}
 use Rattle.shard_dump.proofs.answered.rows_answered.Goals as goal

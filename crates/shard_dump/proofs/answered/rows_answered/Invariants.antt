@@ -1,7 +1,7 @@
 use Rattle.std.proofs.Common.{◌≡◌, ◌<◌, ◌≤◌, ◌+◌, ◌^◌, true, All, length}
 use Rattle.std.specs.Prelude.{IsSome}
 use Rattle.sql_keeper.specs.Stores.{rows_of}
-use Rattle.shard_dump.specs.Answered.{is_answered, may_stand}
+use Rattle.shard_dump.specs.Answered.{may_stand}
 use Rattle.shard_dump.proofs.AnsweredLemmas.{MayGoOn, TakesRight, rows_back, right_rows}
 use Rattle.shard_dump.proofs.answered.rows_answered.Given as goal
 

@@ -21,10 +21,10 @@ pub invariant_of-self-2 : goal.invariant_of-self-2
 invariant_of-self-2 g c =
     let shard = c.self.inside.shard in
     let pass = c.self.inside.pass in
-    let lapse = c.in-Ok-Some.lapse in
+    let lapse = c.in-Some.lapse in
     let s : Step = step.Void lapse.key lapse.token c.args.now in
     let made = subst (λ (o : Option Lapse). IfSome o (λ l. c.lapse.new.self ≡ stepped shard (step.Void l.key l.token c.args.now)))
-    c.in-Ok-Some.field-0-is c.in-Ok-Some.ensures.step in
+    c.in-Some.is c.in_ok-lapse.ensures.step in
     let has = has_mapped _ c.peek.result (entry lapse.key (past_of c.lapse.new.self)) c.is_some-has.result c.is_some-has.ensures c.peek.ensures in
     invariant_after g.H.HubName.terms c.self.inside.token.parts c.self.inside.token.amount g.H.BoundName.word g.H.HubName.opening g.H.BoundName.before
     shard pass c.self.invariant c.sound.ensures s

@@ -5,12 +5,12 @@ use Rattle.key_shard.specs.Shards.{past_of}
 use Rattle.bound_hub.specs.Ties.{BoundShardView}
 use Rattle.bound_hub.proofs.bound_shards.BoundShard.next_look.Goals as goal
 
-pub returns-then-rolls : goal.returns-then-rolls
-returns-then-rolls g c =
+pub returns-then-rolls-clause-quarantines : goal.returns-then-rolls-clause-quarantines
+returns-then-rolls-clause-quarantines g c =
     subst (λ (v : BoundShardView). (now : ℕ) → now < c.min.result → NoneDue now (λ key. standing key (past_of v.shard)))
     c.self.view_is (λ now below. c.next_due.ensures now (omega (arith, below)))
 
-pub returns-else-rolls : goal.returns-else-rolls
-returns-else-rolls g c =
+pub returns-else-rolls-clause-quarantines : goal.returns-else-rolls-clause-quarantines
+returns-else-rolls-clause-quarantines g c =
     subst (λ (v : BoundShardView). (now : ℕ) → now < c.next_due-else-rolls.result → NoneDue now (λ key. standing key (past_of v.shard)))
     c.self.view_is c.next_due-else-rolls.ensures
