@@ -1,11 +1,11 @@
 -- How slots are kept in memory, and that they stay so.
 use Rattle.std.proofs.Common.{ℕ, ◌+◌, ◌≡◌, ◌≤◌, ◌<◌, ◌^◌, Bool, true, false, cond, List, [], ◌∷◌, ◌++◌, length, length-append, Option, Some, None, is_some, get_or, set, refl, sym, ap, ◌∙◌, inl, inr, arith}
-use Rattle.std.specs.Prelude.{nat_eq, nat_lt, Vec, ◌↔◌, ◌⊎◌, count_by, IsSome, IsNone}
+use Rattle.std.specs.Prelude.{nat_eq, nat_lt, Vec, ◌-◌, ◌↔◌, ◌⊎◌, count_by, IsSome, IsNone, slice_get, option_to_list}
 use Rattle.std.specs.Map.{lookup, KeepsOthers}
 use Rattle.std.proofs.lemmas.Bool.{false≢true, cases_eq, cases_lt, eq-eqb, ne_eqb, lt-ltb, le-ltb, cond-true, cond-false}
 use Rattle.std.proofs.lemmas.List.{length-set, get_or_default, get_or_past, set-get_or}
 use Rattle.std.proofs.lemmas.List.Sums.{sum_by-cons, sum_by-append, sum_by-set}
-use Rattle.std.proofs.lemmas.Option.{same_Some}
+use Rattle.std.proofs.lemmas.Option.{same_Some, slice_get_within, get_or_from_slice_get}
 use Rattle.key_slots.specs.Slots.{Slots, IsSlotKey, IsSound, is_same, holder_at, place_of, held_with}
 use Rattle.key_slots.specs.Kept.{found_at, vacancy, vacancy_at, IsKept}
 use Rattle.key_slots.proofs.SlotLemmas.{same_bytes, same_itself, same_not, not_none, set_at, add_at, place_is, Agree, agree_given, agree_freed, agree_once}
@@ -244,3 +244,12 @@ kept_freed {A} {room} {cap} {places} {placed} {holders} {free} kept slot key sho
         let now : vacancy_at (set holders slot None) s ≡ vacancy_at holders s =
         ap vacancy (set_at holders slot s None (Some []) short ∙ cond-false (nat_eq s slot) None (get_or holders s (Some [])) (ne_eqb s slot apart)) in
         omega (arith, kept.freed s, whole, none, now)
+
+-- what is taken from the end is what stood there
+pub last_stands : (free rest : List ℕ) (len slot : ℕ) (o : Option ℕ) → length free ≡ len → free ≡ rest ++ option_to_list o
+    → ((d : ℕ) → 0 < len → o ≡ Some (get_or free (len - 1) d)) → slice_get free (len - 1) ≡ Some slot → free ≡ rest ++ slot ∷ []
+last_stands free rest len slot o long items value read =
+    let within = slice_get_within free (len - 1) slot read in
+    items
+    ∙ ap (λ (p : Option ℕ). rest ++ option_to_list p)
+    (value 0 (omega (arith, within, long)) ∙ ap (λ (n : ℕ). Some n) (get_or_from_slice_get free (len - 1) slot 0 read))

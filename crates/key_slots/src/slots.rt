@@ -110,6 +110,7 @@ impl KeySlots {
             (λ slot. self.new ≡ with_key self.old slot name)) }
         ensures some { IfOk result (λ given. IsSome given) }
         ensures err { OnErr result (self.new ≡ self.old) }
+        ensures sound { IsSound self.new }
     {
         let slot = *self.free.last().unwrap();
         self.places.insert(own, slot)?;
@@ -128,6 +129,7 @@ impl KeySlots {
         ensures given { IfOk result (λ given. given ≡ Some (length self.old.holders)) }
         ensures holds { OnOk result (self.new ≡ with_key self.old (length self.old.holders) name) }
         ensures err { OnErr result (self.new ≡ self.old) }
+        ensures sound { IsSound self.new }
     {
         let next = self.holders.len();
         self.holders.reserve(1)?;
