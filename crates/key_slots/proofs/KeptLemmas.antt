@@ -1,12 +1,12 @@
 -- How slots are kept in memory, and that they stay so.
-use Rattle.std.proofs.Common.{ℕ, ◌+◌, ◌≡◌, ◌≤◌, ◌<◌, ◌^◌, Bool, true, false, cond, List, [], ◌∷◌, ◌++◌, length, length-append, Option, Some, None, is_some, get_or, set, refl, sym, ap, ◌∙◌, inl, inr, arith}
+use Rattle.std.proofs.Common.{ℕ, ◌+◌, ◌≡◌, ◌≤◌, ◌<◌, ◌^◌, Bool, true, false, cond, List, [], ◌∷◌, ◌++◌, length, length-append, Option, Some, None, is_some, get_or, set, refl, sym, ap, subst, ◌∙◌, inl, inr, arith}
 use Rattle.std.specs.Prelude.{nat_eq, nat_lt, Vec, ◌-◌, ◌↔◌, ◌⊎◌, count_by, IsSome, IsNone, slice_get, option_to_list}
 use Rattle.std.specs.Map.{lookup, KeepsOthers}
 use Rattle.std.proofs.lemmas.Bool.{false≢true, cases_eq, cases_lt, eq-eqb, ne_eqb, lt-ltb, le-ltb, cond-true, cond-false}
 use Rattle.std.proofs.lemmas.List.{length-set, get_or_default, get_or_past, set-get_or}
 use Rattle.std.proofs.lemmas.List.Sums.{sum_by-cons, sum_by-append, sum_by-set}
 use Rattle.std.proofs.lemmas.Option.{same_Some, slice_get_within, get_or_from_slice_get}
-use Rattle.key_slots.specs.Slots.{Slots, IsSlotKey, IsSound, is_same, holder_at, place_of, held_with}
+use Rattle.key_slots.specs.Slots.{Slots, IsSlotKey, IsSound, is_same, holder_at, place_of, held_with, with_key}
 use Rattle.key_slots.specs.Kept.{found_at, vacancy, vacancy_at, IsKept}
 use Rattle.key_slots.proofs.SlotLemmas.{same_bytes, same_itself, same_not, not_none, set_at, add_at, place_is, Agree, agree_given, agree_freed, agree_once}
 
@@ -14,7 +14,7 @@ use Rattle.key_slots.proofs.SlotLemmas.{same_bytes, same_itself, same_not, not_n
 abbrev pub same_names : {A : Type 0} → Vec ℕ A → Vec ℕ A → Bool
 same_names x y = is_same x.items y.items
 
-pub kept_new : {A : Type 0} (room cap : ℕ) → room < 2 ^ 32 → IsKept {A} room [] [] [] cap
+pub kept_new : {A : Type 0} (room cap : ℕ) → room < 2 ^ 32 → IsKept {A = A} room [] [] [] cap
 kept_new room cap low = record {
   agree = λ key slot. (λ p. absurd (false≢true (ap is_some p)), λ h. absurd (false≢true (ap is_some h)));
   fit = λ key slot h. absurd (false≢true (ap is_some h));
@@ -120,7 +120,7 @@ pub last_free : {A : Type 0} {room cap : ℕ} {places : List (Vec ℕ A × ℕ)}
 last_free {holders = holders} {free = free} kept rest slot is =
     let freed = kept.freed slot in
     let whole = ap (λ (l : List ℕ). count_by (nat_eq slot) l) is ∙ count_behind slot rest slot in
-    let one : cond (nat_eq slot slot) 1 0 ≡ 1 = cond-true (nat_eq slot slot) 1 0 (eq-eqb slot slot refl) in
+    let one : ◌≡◌ {A = ℕ} (cond (nat_eq slot slot) 1 0) 1 = cond-true (nat_eq slot slot) 1 0 (eq-eqb slot slot refl) in
     vacant_slot holders slot (omega (arith, freed, whole, one))
 
 -- a slot that was freed is given
@@ -136,7 +136,7 @@ kept_given {A} {room} {cap} {places} {placed} {holders} {free} kept rest slot ke
     let long = length-set holders slot (Some key) in
     let grown = ap (λ (l : List ℕ). length l) is ∙ length-append rest (slot ∷ []) in
     let set_one = count_set holders slot (Some key) last.0 in
-    let before : cond (is_some (holder_at holders slot)) 1 0 ≡ 0 = ap (λ (o : Option (List ℕ)). cond (is_some o) 1 0) last.1 in
+    let before : ◌≡◌ {A = ℕ} (cond (is_some (holder_at holders slot)) 1 0) 0 = ap (λ (o : Option (List ℕ)). cond (is_some o) 1 0) last.1 in
     record {
       agree = agree_given (λ k. found_at k places) (λ k. found_at k placed) (holder_at holders) (holder_at (set holders slot (Some key))) key slot kept.agree
           (kept_found kept key ∙ none) last.1 found holds;
@@ -152,7 +152,7 @@ kept_given {A} {room} {cap} {places} {placed} {holders} {free} kept rest slot ke
         → count_by (nat_eq s) rest ≡ vacancy_at (set holders slot (Some key)) s
     left s (inl same) short =
         let whole = ap (λ (l : List ℕ). count_by (nat_eq s) l) is ∙ count_behind s rest slot in
-        let one : cond (nat_eq s slot) 1 0 ≡ 1 = cond-true (nat_eq s slot) 1 0 (eq-eqb s slot same) in
+        let one : ◌≡◌ {A = ℕ} (cond (nat_eq s slot) 1 0) 1 = cond-true (nat_eq s slot) 1 0 (eq-eqb s slot same) in
         let most : vacancy_at holders s ≤ 1 = at_most (get_or holders s (Some [])) in
         let now : vacancy_at (set holders slot (Some key)) s ≡ 0 =
         ap vacancy (set_at holders slot s (Some key) (Some []) short ∙ cond-true (nat_eq s slot) (Some key) (get_or holders s (Some [])) (eq-eqb s slot same)) in
@@ -163,7 +163,7 @@ kept_given {A} {room} {cap} {places} {placed} {holders} {free} kept rest slot ke
         at_most (Some k) = omega arith
     left s (inr apart) short =
         let whole = ap (λ (l : List ℕ). count_by (nat_eq s) l) is ∙ count_behind s rest slot in
-        let none : cond (nat_eq s slot) 1 0 ≡ 0 = cond-false (nat_eq s slot) 1 0 (ne_eqb s slot apart) in
+        let none : ◌≡◌ {A = ℕ} (cond (nat_eq s slot) 1 0) 0 = cond-false (nat_eq s slot) 1 0 (ne_eqb s slot apart) in
         let now : vacancy_at (set holders slot (Some key)) s ≡ vacancy_at holders s =
         ap vacancy (set_at holders slot s (Some key) (Some []) short ∙ cond-false (nat_eq s slot) (Some key) (get_or holders s (Some [])) (ne_eqb s slot apart)) in
         omega (arith, kept.freed s, whole, none, now)
@@ -204,7 +204,7 @@ pub room_to_free : {A : Type 0} {room cap : ℕ} {places : List (Vec ℕ A × �
     → IsKept room places holders free cap → (slot : ℕ) (key : List ℕ) → slot < length holders → holder_at holders slot ≡ Some key → length free < cap
 room_to_free {holders = holders} kept slot key short had =
     let one = count_set holders slot None short in
-    let before : cond (is_some (holder_at holders slot)) 1 0 ≡ 1 = ap (λ (o : Option (List ℕ)). cond (is_some o) 1 0) had in
+    let before : ◌≡◌ {A = ℕ} (cond (is_some (holder_at holders slot)) 1 0) 1 = ap (λ (o : Option (List ℕ)). cond (is_some o) 1 0) had in
     omega (arith, kept.counted, kept.spare, one, before)
 
 -- a slot is freed
@@ -218,7 +218,7 @@ kept_freed {A} {room} {cap} {places} {placed} {holders} {free} kept slot key sho
     let long = length-set holders slot None in
     let grown = length-append free (slot ∷ []) in
     let one = count_set holders slot None short in
-    let before : cond (is_some (holder_at holders slot)) 1 0 ≡ 1 = ap (λ (o : Option (List ℕ)). cond (is_some o) 1 0) had in
+    let before : ◌≡◌ {A = ℕ} (cond (is_some (holder_at holders slot)) 1 0) 1 = ap (λ (o : Option (List ℕ)). cond (is_some o) 1 0) had in
     record {
       agree = agree_freed (λ k. found_at k places) (λ k. found_at k placed) (holder_at holders) (holder_at (set holders slot None)) key slot kept.agree had found holds;
       fit = fit_freed holders (set holders slot None) slot kept.fit holds;
@@ -232,7 +232,7 @@ kept_freed {A} {room} {cap} {places} {placed} {holders} {free} kept slot key sho
     left : (s : ℕ) → (s ≡ slot) ⊎ (s ≡ slot → ⊥) → count_by (nat_eq s) (free ++ slot ∷ []) ≡ vacancy_at (set holders slot None) s
     left s (inl same) =
         let whole = count_behind s free slot in
-        let one : cond (nat_eq s slot) 1 0 ≡ 1 = cond-true (nat_eq s slot) 1 0 (eq-eqb s slot same) in
+        let one : ◌≡◌ {A = ℕ} (cond (nat_eq s slot) 1 0) 1 = cond-true (nat_eq s slot) 1 0 (eq-eqb s slot same) in
         let was : vacancy_at holders s ≡ 0 =
         ap (λ (n : ℕ). vacancy_at holders n) same ∙ ap vacancy (get_or_default holders slot (Some []) None short ∙ had) in
         let now : vacancy_at (set holders slot None) s ≡ 1 =
@@ -240,16 +240,28 @@ kept_freed {A} {room} {cap} {places} {placed} {holders} {free} kept slot key sho
         omega (arith, kept.freed s, whole, one, was, now)
     left s (inr apart) =
         let whole = count_behind s free slot in
-        let none : cond (nat_eq s slot) 1 0 ≡ 0 = cond-false (nat_eq s slot) 1 0 (ne_eqb s slot apart) in
+        let none : ◌≡◌ {A = ℕ} (cond (nat_eq s slot) 1 0) 0 = cond-false (nat_eq s slot) 1 0 (ne_eqb s slot apart) in
         let now : vacancy_at (set holders slot None) s ≡ vacancy_at holders s =
         ap vacancy (set_at holders slot s None (Some []) short ∙ cond-false (nat_eq s slot) None (get_or holders s (Some [])) (ne_eqb s slot apart)) in
         omega (arith, kept.freed s, whole, none, now)
 
 -- what is taken from the end is what stood there
 pub last_stands : (free rest : List ℕ) (len slot : ℕ) (o : Option ℕ) → length free ≡ len → free ≡ rest ++ option_to_list o
-    → ((d : ℕ) → 0 < len → o ≡ Some (get_or free (len - 1) d)) → slice_get free (len - 1) ≡ Some slot → free ≡ rest ++ slot ∷ []
+    → ((d : ℕ) → 0 < len → o ≡ Some (get_or free (len - 1) d)) → slice_get free (length free - 1) ≡ Some slot → free ≡ rest ++ slot ∷ []
 last_stands free rest len slot o long items value read =
-    let within = slice_get_within free (len - 1) slot read in
+    let here = subst (λ (n : ℕ). slice_get free (n - 1) ≡ Some slot) long read in
+    let within = slice_get_within free (len - 1) slot here in
     items
     ∙ ap (λ (p : Option ℕ). rest ++ option_to_list p)
-    (value 0 (omega (arith, within, long)) ∙ ap (λ (n : ℕ). Some n) (get_or_from_slice_get free (len - 1) slot 0 read))
+    (value 0 (omega (arith, within, long)) ∙ ap (λ (n : ℕ). Some n) (get_or_from_slice_get free (len - 1) slot 0 here))
+
+-- the slots with these holders
+abbrev pub slots_of : ℕ → List (Option (List ℕ)) → Slots
+slots_of room holders = record { room = room; holders = holders }
+
+-- a slot that was freed is written where it stands
+pub with_set : (room : ℕ) (holders : List (Option (List ℕ))) (slot : ℕ) (key : List ℕ) → slot < length holders
+    → slots_of room (set holders slot (Some key)) ≡ with_key (slots_of room holders) slot key
+with_set room holders slot key short =
+    ap (slots_of room)
+    (sym (cond-true (nat_lt slot (length holders)) (set holders slot (Some key)) (holders ++ Some key ∷ []) (lt-ltb slot (length holders) short)))
