@@ -30,7 +30,7 @@ invariant_of-self-2 c =
         ≡ cond (is_same n k) (Some c.unwrap-slot.result.now) (found_at k c.self.inside.places.entries)) c.requires.same found in
     let none = ap (λ (s : Slots). slot_of s c.args.name) c.self.view_is ∙ c.requires.none in
     let kept = kept_given c.self.invariant c.pop.new.self.items c.unwrap-slot.result.now c.args.name stands c.requires.fit none at_name in
-    subst (λ (n : ℕ). IsKept c.self.inside.room c.insert.new.self.entries _ c.pop.new.self.items n) (sym c.pop.ensures.capacity) kept
+    subst (λ (n : ℕ). IsKept c.self.inside.room c.insert.new.self.entries (set c.self.inside.holders.items c.unwrap-slot.result.now (Some c.args.name)) c.pop.new.self.items n) (sym c.pop.ensures.capacity) kept
 
 pub returns-clause-free : goal.returns-clause-free
 returns-clause-free c = 
