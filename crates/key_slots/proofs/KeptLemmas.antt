@@ -1,14 +1,14 @@
 -- How slots are kept in memory, and that they stay so.
 use Rattle.std.proofs.Common.{ℕ, ◌+◌, ◌≡◌, ◌≤◌, ◌<◌, ◌^◌, Bool, true, false, cond, List, [], ◌∷◌, ◌++◌, length, length-append, Option, Some, None, is_some, get_or, set, refl, sym, ap, subst, ◌∙◌, inl, inr, arith}
-use Rattle.std.specs.Prelude.{nat_eq, nat_lt, Vec, ◌-◌, ◌↔◌, ◌⊎◌, count_by, IsSome, IsNone, slice_get, option_to_list}
-use Rattle.std.specs.Map.{lookup, KeepsOthers}
-use Rattle.std.proofs.lemmas.Bool.{false≢true, cases_eq, cases_lt, eq-eqb, ne_eqb, lt-ltb, le-ltb, cond-true, cond-false}
+use Rattle.std.specs.Prelude.{nat_eq, nat_lt, Vec, ◌-◌, ◌⊎◌, count_by, slice_get, option_to_list}
+use Rattle.std.specs.Map.{KeepsOthers}
+use Rattle.std.proofs.lemmas.Bool.{false≢true, cases_eq, cases_lt, eq-eqb, ne_eqb, lt-ltb, cond-true, cond-false}
 use Rattle.std.proofs.lemmas.List.{length-set, get_or_default, get_or_past, set-get_or}
 use Rattle.std.proofs.lemmas.List.Sums.{sum_by-cons, sum_by-append, sum_by-set}
 use Rattle.std.proofs.lemmas.Option.{same_Some, slice_get_within, get_or_from_slice_get}
-use Rattle.key_slots.specs.Slots.{Slots, IsSlotKey, IsSound, is_same, holder_at, place_of, held_with, with_key}
+use Rattle.key_slots.specs.Slots.{Slots, IsSlotKey, IsSound, is_same, holder_at, place_of, with_key}
 use Rattle.key_slots.specs.Kept.{found_at, vacancy, vacancy_at, IsKept}
-use Rattle.key_slots.proofs.SlotLemmas.{same_bytes, same_itself, same_not, not_none, set_at, add_at, place_is, Agree, agree_given, agree_freed, agree_once}
+use Rattle.key_slots.proofs.SlotLemmas.{same_bytes, same_itself, same_not, not_none, set_at, add_at, place_is, agree_given, agree_freed, agree_once}
 
 -- whether two names are the same bytes
 abbrev pub same_names : {A : Type 0} → Vec ℕ A → Vec ℕ A → Bool

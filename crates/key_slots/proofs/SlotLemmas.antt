@@ -1,12 +1,12 @@
 -- Who has each slot, and which slot is a key's.
-use Rattle.std.proofs.Common.{ℕ, zero, suc, ◌+◌, ◌≡◌, ◌≢◌, ◌≤◌, ◌<◌, Bool, true, false, cond, List, [], ◌∷◌, ◌++◌, length, length-append, Option, Some, None, option_map, is_some, get_or, set, add-one, refl, sym, ap, ◌∙◌, inl, inr, arith}
+use Rattle.std.proofs.Common.{ℕ, zero, suc, ◌+◌, ◌≡◌, ◌≤◌, ◌<◌, Bool, true, false, cond, List, [], ◌∷◌, ◌++◌, length, length-append, Option, Some, None, option_map, is_some, get_or, set, add-one, refl, sym, ap, ◌∙◌, inl, inr, arith}
 use Rattle.std.specs.Prelude.{nat_eq, nat_lt, ◌↔◌, ◌⊎◌}
 use Rattle.std.specs.Cmp.Lexicographic.{bytes_decides}
 use Rattle.std.proofs.lemmas.Bool.{false≢true, cases_eq, cases_lt, cases_order, eq-eqb, ne_eqb, lt-ltb, le-ltb, cond-true, cond-false, false_from_ne_true}
 use Rattle.std.proofs.lemmas.List.{get_or-set_same, get_or-set_other, get_or_at, get_or_append_left, get_or_past, set_past}
 use Rattle.std.proofs.lemmas.Option.{same_Some}
-use Rattle.key_slots.specs.Slots.{Slots, IsSound, EachOnce, is_same, is_held, holder_at, place_of, slot_of, key_of, held_with, with_key, without_key}
-use Rattle.key_slots.specs.Laws.{EachSlotIsOneKeys, IsGiven, GivenSlotsAreOneKeys, IsFreed, FreedSlotsAreNobodys}
+use Rattle.key_slots.specs.Slots.{EachOnce, is_same, is_held, holder_at, place_of, held_with}
+use Rattle.key_slots.specs.Laws.{EachSlotIsOneKeys, GivenSlotsAreOneKeys, FreedSlotsAreNobodys}
 
 pub same_bytes : (key other : List ℕ) → is_same key other ≡ true → key ≡ other
 same_bytes key other same = (bytes_decides key other).0 same

@@ -1,6 +1,6 @@
 -- What follows for each key and each slot.
-use Rattle.std.specs.Prelude.{ℕ, ◌≡◌, ◌≤◌, ◌↔◌, if◌then◌else◌, ◌==◌, List, length, Option, Some, None}
-use Rattle.key_slots.specs.Slots.{Slots, IsSlotKey, IsSound, is_same, is_held, slot_of, key_of, with_key, without_key}
+use Rattle.std.specs.Prelude.{ℕ, ◌≡◌, ◌≤◌, ◌↔◌, if◌then◌else◌, ◌==◌, List, length, Some, None}
+use Rattle.key_slots.specs.Slots.{Slots, IsSound, is_same, is_held, slot_of, key_of, with_key, without_key}
 
 -- A slot is the key's exactly where the key has that slot.
 abbrev pub EachSlotIsOneKeys : Type 0

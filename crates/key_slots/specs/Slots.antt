@@ -1,5 +1,5 @@
 -- Which key has which slot.
-use Rattle.std.specs.Prelude.{ℕ, ◌≡◌, ◌+◌, ◌≤◌, ◌<◌, ◌^◌, Bool, false, nat_eq, nat_lt, if◌then◌else◌, List, [], ◌∷◌, ◌++◌, length, count_by, Option, Some, None, is_some, option_map, slice_index_or, slice_set}
+use Rattle.std.specs.Prelude.{ℕ, ◌≡◌, ◌+◌, ◌≤◌, Bool, false, nat_eq, nat_lt, if◌then◌else◌, List, [], ◌∷◌, ◌++◌, length, count_by, Option, Some, None, is_some, option_map, slice_index_or, slice_set}
 use Rattle.std.specs.Cmp.Lexicographic.{pointwise}
 
 -- How many slots there may be, and who has each slot from 0 on: a key, or nobody. Nobody has a slot behind the last.
