@@ -125,8 +125,8 @@ impl<H: BoundName> BoundBook<H> {
         shard.tell(word, &mut self.pass);
     }
 
-    // Notes what a get was answered, where its step is the last that was seen of the key's shard.
-    fn note_got(&mut self, who: Sid, key: QKey, got: &Got)
+    /// Notes what a get was answered, where its step is the last that was seen of the key's shard.
+    pub(crate) fn note_got(&mut self, who: Sid, key: QKey, got: &Got)
         requires { (has : Bool) × IsLastStep (shard_of key H.word.shards)
             (got_short key who got.now has) self.old.seen }
         ensures seen { self.new.seen ≡ self.old.seen }

@@ -13,7 +13,9 @@ ghost use Rattle.desk_book.specs.Borne.{MayQuarantine};
 ghost use Rattle.bound_desk.specs.Safe.{IsSafe};
 ghost use Rattle.bound_desk.specs.Made.{IsMade};
 ghost use Rattle.bound_desk.specs.Records.{ShowsFirst};
+ghost use Rattle.bound_desk.specs.Faults.{ShowsFault};
 ghost use Rattle.bound_desk.specs.Shown.{ShowsReply};
+ghost use Rattle.bound_desk.specs.Told.{book_after};
 
 use crate::bound_books::BoundBook;
 use bound_hub::{BoundName, BoundShard};
@@ -41,6 +43,8 @@ impl<H: BoundName> BoundBook<H> {
         ensures seen { IsBeginning self.old.seen self.new.seen }
         ensures shows { ShowsReply H.opening H.before H.word.shards who (wanted.Get key floor)
             result self.new.seen }
+        ensures fault { ShowsFault H.terms H.before H.word.shards (wanted.Get key floor) result self.new.seen }
+        ensures book { self.new.book.book ≡ book_after who (wanted.Get key floor) result self.old.book.book }
         ensures first { ShowsFirst H.terms H.before H.word.shards who result self.new.seen }
     {
         match self.get(word, shard, key, who, floor, now) {
@@ -63,12 +67,22 @@ impl<H: BoundName> BoundBook<H> {
         requires home { IsAtHome shard.old.shard.terms key }
         ensures belongs { IfSome result (Belongs who (wanted.Get key floor)) }
         ensures seen { IsBeginning self.old.seen self.new.seen }
+        ensures shows { IfSome result (λ reply. ShowsReply H.opening H.before H.word.shards who
+            (wanted.Get key floor) reply self.new.seen) }
+        ensures fault { IfSome result (λ reply.
+            ShowsFault H.terms H.before H.word.shards (wanted.Get key floor) reply self.new.seen) }
+        ensures book { IfSome result (λ reply.
+            self.new.book.book ≡ book_after who (wanted.Get key floor) reply self.old.book.book) }
+        ensures none { IfNone result (self.new.book ≡ self.old.book) }
         ensures first { IfSome result (λ reply.
             ShowsFirst H.terms H.before H.word.shards who reply self.new.seen) }
         ensures same { IfNone result (shard.new.shard ≡ shard.old.shard) }
     {
         match self.get_hit(word, shard, key, who, floor) {
-            Some(got) => Some(Reply::Got { got }),
+            Some(got) => {
+                self.note_got(who, key, &got);
+                Some(Reply::Got { got })
+            }
             None => None,
         }
     }
@@ -90,6 +104,8 @@ impl<H: BoundName> BoundBook<H> {
         ensures seen { IsBeginning self.old.seen self.new.seen }
         ensures shows { ShowsReply H.opening H.before H.word.shards who (wanted.QaReg key)
             result self.new.seen }
+        ensures fault { ShowsFault H.terms H.before H.word.shards (wanted.QaReg key) result self.new.seen }
+        ensures book { self.new.book.book ≡ book_after who (wanted.QaReg key) result self.old.book.book }
         ensures first { ShowsFirst H.terms H.before H.word.shards who result self.new.seen }
     {
         match self.quarantine(word, shard, who, key, Mode::Invalidate, 0, now) {
@@ -115,6 +131,8 @@ impl<H: BoundName> BoundBook<H> {
         ensures seen { IsBeginning self.old.seen self.new.seen }
         ensures shows { ShowsReply H.opening H.before H.word.shards who (wanted.QaRead key)
             result self.new.seen }
+        ensures fault { ShowsFault H.terms H.before H.word.shards (wanted.QaRead key) result self.new.seen }
+        ensures book { self.new.book.book ≡ book_after who (wanted.QaRead key) result self.old.book.book }
         ensures first { ShowsFirst H.terms H.before H.word.shards who result self.new.seen }
     {
         match self.quarantine(word, shard, who, key, Mode::Refresh, 0, now) {
@@ -141,6 +159,8 @@ impl<H: BoundName> BoundBook<H> {
         ensures seen { IsBeginning self.old.seen self.new.seen }
         ensures shows { ShowsReply H.opening H.before H.word.shards who (wanted.Delta key by)
             result self.new.seen }
+        ensures fault { ShowsFault H.terms H.before H.word.shards (wanted.Delta key by) result self.new.seen }
+        ensures book { self.new.book.book ≡ book_after who (wanted.Delta key by) result self.old.book.book }
         ensures first { ShowsFirst H.terms H.before H.word.shards who result self.new.seen }
     {
         match self.quarantine(word, shard, who, key, Mode::Delta, by, now) {
@@ -168,6 +188,7 @@ impl<H: BoundName> BoundBook<H> {
         ensures seen { IsBeginning self.old.seen self.new.seen }
         ensures shows { ShowsReply H.opening H.before H.word.shards who
             (wanted.Set key token value stamp) result self.new.seen }
+        ensures book { self.new.book ≡ self.old.book }
     {
         match self.set(word, shard, who, key, token, value, stamp, now) {
             Ok(answer) => Reply::Set { answer },
@@ -201,6 +222,8 @@ impl<H: BoundName> BoundBook<H> {
         ensures seen { IsBeginning self.old.seen self.new.seen }
         ensures shows { ShowsReply H.opening H.before H.word.shards who request result
             self.new.seen }
+        ensures fault { ShowsFault H.terms H.before H.word.shards request result self.new.seen }
+        ensures book { self.new.book.book ≡ book_after who request result self.old.book.book }
         ensures first { (writes : Bool) → IsFirst writes request
             → ShowsFirst H.terms H.before H.word.shards who result self.new.seen }
         ensures made { IsMade self.old.quit shard.old.shard request result }
