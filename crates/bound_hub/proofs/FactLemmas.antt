@@ -32,6 +32,7 @@ held_first opening stopped key None first = tt
 held_first opening stopped key (Some found) first = record {
   within = let e = first.0 in omega (arith, e);
   pending = λ place commit token at from touched h. h;
+  settled = λ place commit at before touched. absurd cc;
 }
 
 right_first : (opening : Tables) (stopped : Bool) (key : QKey) (found : Option (List ℕ × ℕ)) → IsFirst opening stopped key found → stopped ≡ false

@@ -87,12 +87,22 @@ held_behind key marks old known stamp none held = record {
   within = held.within;
   pending = λ place commit token at from touched h.
       ⊎_elim (held.pending place commit token at from touched) (none commit.sid.number token) (has-split (Ended commit.sid.number token) marks old h);
+  settled = λ place commit at before touched.
+      let ended = held.settled place commit at before touched in
+      record { token = ended.token; mark = has-front (Ended commit.sid.number ended.token) marks old ended.mark };
 }
 
-held_before : (key : QKey) (marks old : List Mark) (known : Known) (stamp : ℕ) → IsHeld key (marks ++ old) known stamp → IsHeld key marks known stamp
-held_before key marks old known stamp held = record {
+held_before : (key : QKey) (marks old : List Mark) (known : Known) (stamp : ℕ) → ((who token : ℕ) → Has (Ended who token) old → ⊥)
+    → IsHeld key (marks ++ old) known stamp → IsHeld key marks known stamp
+held_before key marks old known stamp none held = record {
   within = held.within;
   pending = λ place commit token at from touched h. held.pending place commit token at from touched (has-front (Ended commit.sid.number token) marks old h);
+  settled = λ place commit at before touched.
+      let ended = held.settled place commit at before touched in
+      record {
+        token = ended.token;
+        mark = ⊎_elim (λ h. h) (λ h. absurd (none commit.sid.number ended.token h)) (has-split (Ended commit.sid.number ended.token) marks old ended.mark);
+      };
 }
 
 entry_held : (key : QKey) (ms ns : List Mark) (known : Known) (found : Option (List ℕ × ℕ)) → ((stamp : ℕ) → IsHeld key ms known stamp → IsHeld key ns known stamp)
@@ -220,5 +230,5 @@ module _ (key : QKey) (before : List Step) (quiet : IsQuiet before) where
         after : (more : List Step) → IsEntryHeld key (marks_of key (more ++ first)) known (entry key (more ++ first)) → IsHeldAfter more
         after more held =
             entry_held key (marks_of key (more ++ first)) (marks_of key more) known (entry key (more ++ before))
-            (λ stamp h. held_before key (marks_of key more) (marks_of key first) known stamp (subst (λ ms. IsHeld key ms known stamp) (marks_are key more) h))
+            (λ stamp h. held_before key (marks_of key more) (marks_of key first) known stamp (first_ends_none key key found) (subst (λ ms. IsHeld key ms known stamp) (marks_are key more) h))
             (subst (IsEntryHeld key (marks_of key (more ++ first)) known) (same_entry more) held)

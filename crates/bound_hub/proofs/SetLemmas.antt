@@ -27,7 +27,7 @@ use Rattle.key_freshness.specs.Marks.{Wrote, key_of, marks_in, marks_of}
 use Rattle.key_freshness.specs.Moments.{IsSince}
 use Rattle.key_freshness.specs.Held.{IsHeld}
 use Rattle.key_freshness.proofs.KnownLemmas.{more-length}
-use Rattle.key_freshness.proofs.MomentLemmas.{more_is_right, stored_is_latest}
+use Rattle.key_freshness.proofs.MomentLemmas.{more_is_right, stored_is_latest, stored_is_settled}
 use Rattle.bound_hub.specs.Shorts.{kind_of_end, short_of, shorts_of}
 use Rattle.bound_hub.specs.Knowns.{commits_of, known_of}
 use Rattle.bound_hub.specs.Facts.{answer_after}
@@ -125,6 +125,9 @@ module _ (word : WordView) (opening : Tables) (before : ℕ → List Step) (old 
                 stored_is_latest key (marks_of key (s ∷ rest)) (marks_of key bound.more) (known_of asked.earlier.events) (known_of pass.seen.events) stamp
                 moment since (more_is_known asked.earlier pass.seen asked.begins) (bound_rules word opening before old pass bound sound key home)
                 asked.late place commit stands_at from touched;
+            settled = λ place commit stands_at low touched.
+                stored_is_settled key (marks_of key (s ∷ rest)) (marks_of key bound.more) (known_of asked.earlier.events) (known_of pass.seen.events) stamp
+                moment since (bound_rules word opening before old pass bound sound key home) place commit stands_at touched;
           }
       by later other rest goes_on shorts is lease recorded_is mine = absurd is
 

@@ -91,8 +91,9 @@ impl<H: BoundName> BoundShard<H> {
     }
 
     /// Gets a key of the shard for a session, as the shard does, for a caller with this pass. The caller has
-    /// then seen all that was seen here, and of this shard the get's own step as the last. A hit is fresh
-    /// against what the caller has seen then, unless that tells that the store has stopped telling its rows.
+    /// then seen all that was seen here, and of this shard the get's own step as the last. A hit is held by what
+    /// the caller has seen then, and fresh against it, unless that tells that the store has stopped telling its
+    /// rows.
     /// Refused, the shard is as before. It is four loads of the word.
     pub fn get(
         &mut self,
@@ -120,6 +121,8 @@ impl<H: BoundName> BoundShard<H> {
         ensures seen { IsBeginning pass.old.seen pass.new.seen }
         ensures last { IfOk result (λ got. IsLastStep self.old.shard.terms.no
             (got_short key who got (is_some (entry key (past_of self.new.shard)))) pass.new.seen) }
+        ensures held { IfOk result (λ got. let no = self.old.shard.terms.no in
+            IsGotHeld H.opening (H.before no) no pass.new.seen key got) }
         ensures fresh { IfOk result (λ got. let no = self.old.shard.terms.no in
             IsGotFresh H.opening (H.before no) no pass.new.seen key got) }
     {
@@ -153,6 +156,8 @@ impl<H: BoundName> BoundShard<H> {
         ensures seen { IsBeginning pass.old.seen pass.new.seen }
         ensures last { IfSome result (λ got. IsLastStep self.old.shard.terms.no
             (got_short key who got (is_some (entry key (past_of self.new.shard)))) pass.new.seen) }
+        ensures held { IfSome result (λ got. let no = self.old.shard.terms.no in
+            IsGotHeld H.opening (H.before no) no pass.new.seen key got) }
         ensures fresh { IfSome result (λ got. let no = self.old.shard.terms.no in
             IsGotFresh H.opening (H.before no) no pass.new.seen key got) }
     {

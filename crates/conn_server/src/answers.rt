@@ -132,7 +132,7 @@ impl Client {
             (wanted.Get key floor) (commands.IqGet (Some key) sid floor) result self.now }
         ensures untended { D.tends desk.new ≡ D.tends desk.old }
     {
-        tell_lookup(key, desk.call(self.asker(), Wanted::Get { key, floor }))
+        tell_lookup(key, desk.get(self.asker(), key, floor))
     }
 
     /// Asks the store for the answer to a key.

@@ -3,7 +3,7 @@ ghost use Rattle.std.specs.Prelude.{◌≡◌, ◌<◌, ◌++◌, [], ◌∷◌,
 ghost use Rattle.rows_model.specs.declared.changes.Change.{Change};
 ghost use Rattle.rows_model.specs.declared.keys.QKey.{QKey};
 ghost use Rattle.rows_model.specs.declared.keys.Sid.{Sid};
-ghost use Rattle.session_client.specs.Belongs.{Belongs};
+ghost use Rattle.session_client.specs.Belongs.{Belongs, get_reply};
 ghost use Rattle.session_client.specs.declared.replies.Wanted.TheVariants as wanted;
 ghost use Rattle.mc_text.specs.declared.commands.Command.TheVariants as commands;
 ghost use Rattle.mc_text.specs.declared.replies.LineReply.TheVariants as LineReply;
@@ -18,14 +18,13 @@ use sql_keeper::{AfterFault, CommitFault};
 
 /// Of a reply to a lookup of the key.
 #[inline(always)]
-pub(crate) fn tell_lookup(key: QKey, heard: Reply) -> LineReply
-    ensures { (who sid : Sid) (floor : ℕ) → Belongs who (wanted.Get key floor) heard →
-        result ≡ told_of (commands.IqGet (Some key) sid floor) heard }
+pub(crate) fn tell_lookup(key: QKey, heard: Result<Got, Fault>) -> LineReply
+    ensures { (who sid : Sid) (floor : ℕ) → Belongs who (wanted.Get key floor) (get_reply heard) →
+        result ≡ told_of (commands.IqGet (Some key) sid floor) (get_reply heard) }
 {
     match heard {
-        Reply::Got { got } => tell_got(key, got),
-        Reply::Fault { fault } => tell_fault(fault),
-        other => tell_none(other),
+        Ok(got) => tell_got(key, got),
+        Err(fault) => tell_fault(fault),
     }
 }
 

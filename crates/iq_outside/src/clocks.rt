@@ -1,4 +1,4 @@
-ghost use Rattle.std.specs.Prelude.{◌≡◌, ◌<◌, ◌-◌, ◌/◌, ◌^◌, length, min, Contains, IfOk, OnErr};
+ghost use Rattle.std.specs.Prelude.{◌≡◌, ◌<◌, ◌-◌, ◌/◌, ◌^◌, ℕ, length, min, Contains, IfOk, OnErr};
 ghost use Rattle.std.specs.Duration.{as_nanos};
 
 use std::io;
@@ -7,9 +7,15 @@ use std::sync::atomic::{AtomicU64, Ordering};
 use std::time::{self, Duration};
 
 /// Tells the time. Nothing is known of two answers: a clock may stand still, and it may go back.
+///
+/// Contracts see `told`, what is known of a time that the clock told. Whoever is to take the clock's time
+/// and no other has that to show.
 pub trait Clock: Sync {
+    ghost told: { Self → ℕ → Type 0 } = { λ clock time. Unit {0} };
+
     /// The time now, in milliseconds. It can't fail, and takes no memory.
-    fn now(&self) -> u64;
+    fn now(&self) -> u64
+        ensures told { told self.now result };
 }
 
 /// A clock in memory, which tells its times in turn and then the last one for ever. Contracts see
@@ -45,10 +51,10 @@ impl ListClock {
 }
 
 impl Clock for ListClock {
+    ghost told = { λ clock time. Contains clock time };
+
     /// The next of its times, and the last one where all were told.
-    fn now(&self) -> u64
-        ensures one_of_them { Contains self.now result }
-    {
+    fn now(&self) -> u64 {
         let last = self.times.len() - 1;
         let used = self.used.load(Ordering::SeqCst);
         if used >= last as u64 {

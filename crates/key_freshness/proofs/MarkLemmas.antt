@@ -8,7 +8,7 @@ use Rattle.rows_model.specs.Key.{same_key}
 use Rattle.key_shard.specs.declared.steps.Step.{Step}
 use Rattle.key_shard.specs.declared.steps.Step.TheVariants as step
 use Rattle.sql_keeper.specs.Fresh.{releases}
-use Rattle.key_freshness.specs.Marks.{Mark, Granted, Ended, Leased, Wrote, Has, writes_by, marks_in, marks_of, last_wrote}
+use Rattle.key_freshness.specs.Marks.{Mark, Granted, Ended, Leased, Wrote, Has, HasEnded, writes_by, marks_in, marks_of, last_wrote}
 
 -- by whether a test holds
 pub by_test : (P : Bool → Type 0) (b : Bool) → (b ≡ true → P true) → (b ≡ false → P false) → P b
@@ -45,10 +45,9 @@ last_wrote-has (Ended who token ∷ marks) start stamp e = ⊎_elim (λ h. inl (
 last_wrote-has (Leased token ∷ marks) start stamp e = ⊎_elim (λ h. inl (inr h)) (λ s. inr s) (last_wrote-has marks start stamp e)
 last_wrote-has (Wrote n ∷ marks) start stamp e = inl (inl (ap Wrote cc))
 
--- a session has a mark that a quarantine of it ended
-pub record HasEnded (marks : List Mark) (who : ℕ) : Type 0 where
-  pub token : ℕ
-  pub mark : Has (Ended who token) marks
+-- a quarantine that ended has, with more marks
+pub ended-back : (who : ℕ) (more marks : List Mark) → HasEnded marks who → HasEnded (more ++ marks) who
+ended-back who more marks ended = record { token = ended.token; mark = has-back (Ended who ended.token) more marks ended.mark }
 
 ended_by : (key : QKey) (who : Sid) (s : Step) → releases key who s ≡ true → HasEnded (marks_in key s) who.number
 ended_by key who (step.Released on sid token how) e =

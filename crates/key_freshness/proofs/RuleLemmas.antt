@@ -6,7 +6,7 @@ use Rattle.sql_keeper.specs.declared.stores.Commit.{Commit}
 use Rattle.key_freshness.specs.Marks.{Mark, Granted, Ended, Wrote, Has}
 use Rattle.key_freshness.specs.Known.{Known, StandsAt, IsOver, IsRuled}
 use Rattle.key_freshness.specs.Held.{IsHeld}
-use Rattle.key_freshness.proofs.MarkLemmas.{has-back, has-split}
+use Rattle.key_freshness.proofs.MarkLemmas.{ended-back, has-back, has-split}
 
 wrote-same : {a b : ℕ} → Wrote a ≡ Wrote b → a ≡ b
 wrote-same e = cc
@@ -55,4 +55,5 @@ held-append key more marks known stamp none held = record {
   pending = λ place commit token at from touched h.
       ⊎_elim (none place commit token at from touched) (held.pending place commit token at from touched)
       (has-split (Ended commit.sid.number token) more marks h);
+  settled = λ place commit at before touched. ended-back commit.sid.number more marks (held.settled place commit at before touched);
 }

@@ -1,19 +1,19 @@
 -- What a writer puts or shifts after its own commit is held and right.
-use Rattle.std.proofs.Common.{ℕ, zero, suc, ◌≡◌, ◌+◌, ◌-◌, ◌≤◌, ◌<◌, Bool, true, false, List, length, take, Option, Some, sym, ap, subst}
+use Rattle.std.proofs.Common.{ℕ, zero, suc, ◌≡◌, ◌+◌, ◌-◌, ◌≤◌, ◌<◌, Bool, true, false, List, [], ◌∷◌, length, take, Option, Some, sym, ap, subst}
 use Rattle.std.proofs.Common.{◌∙◌, ◌⊎◌, inl, inr, ⊎_elim, arith}
 use Rattle.std.proofs.lemmas.Option.{slice_get_within}
 use Rattle.rows_model.specs.declared.keys.QKey.{QKey}
 use Rattle.rows_model.specs.declared.changes.Change.{Change}
 use Rattle.rows_model.specs.Changes.{touches}
 use Rattle.sql_keeper.specs.declared.stores.Commit.{Commit}
-use Rattle.key_freshness.specs.Marks.{Mark, Ended, Has}
+use Rattle.key_freshness.specs.Marks.{Mark, Ended, Wrote, Has}
 use Rattle.key_freshness.specs.Known.{Known, StandsAt, IsLogged, IsMore, IsRuled}
 use Rattle.key_freshness.specs.Moments.{IsMoment, IsSince}
 use Rattle.key_freshness.specs.Held.{IsHeld, IsRight, LeavesUntouched, MakesNext}
 use Rattle.key_freshness.specs.Laws.{IsOwn, PutIsHeld, PutIsRight, ShiftIsRight, WrittenBefore}
-use Rattle.key_freshness.proofs.MarkLemmas.{has-back, last_wrote-append, last_wrote-has}
+use Rattle.key_freshness.proofs.MarkLemmas.{ended-back, has-back, last_wrote-append, last_wrote-has}
 use Rattle.key_freshness.proofs.KnownLemmas.{stands-within, take-whole, more-length, more-stands, more-stood, more-take}
-use Rattle.key_freshness.proofs.MomentLemmas.{known_then}
+use Rattle.key_freshness.proofs.MomentLemmas.{ended_since, known_then}
 
 -- a commit on the key that the moment didn't know is the session's own
 own_if_late : (key : QKey) (who place : ℕ) (own : Commit) (then_marks marks : List Mark) (then_known known : Known)
@@ -35,6 +35,11 @@ put_is_held key who token place own then_marks marks then_known known moment sin
       (λ same. absurd (omega (arith, same, from)))
       (λ lt. absurd (omega (arith, lt, from, late)))
       (own_if_late key who place own then_marks marks then_known known moment since more ruled its q commit at touched);
+  settled = λ q commit at before touched.
+      ⊎_elim
+      (λ mine. record { token = token; mark = inr (inl (ap (λ n. Ended n token) (sym mine))) })
+      (λ ended. ended-back commit.sid.number (Wrote (place + 1) ∷ Ended who token ∷ []) marks ended)
+      (ended_since key (Some who) then_marks marks then_known known moment since ruled q commit at touched);
 }
 
 not_true : (b : Bool) → (b ≡ true → ⊥) → b ≡ false

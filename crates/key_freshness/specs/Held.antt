@@ -1,19 +1,22 @@
 -- When an entry of a key is held, and what ties marks to what a shard holds.
-use Rattle.std.specs.Prelude.{ℕ, ◌≡◌, ◌⊎◌, ◌+◌, ◌≤◌, Bool, true, false, ◌==◌, ◌&&◌, List, take, length, Option, None, Some}
+use Rattle.std.specs.Prelude.{ℕ, ◌≡◌, ◌⊎◌, ◌+◌, ◌≤◌, ◌<◌, Bool, true, false, ◌==◌, ◌&&◌, List, take, length, Option, None, Some}
 use Rattle.std.specs.List.{list_any}
 use Rattle.rows_model.specs.declared.keys.QKey.{QKey}
 use Rattle.rows_model.specs.declared.changes.Change.{Change}
 use Rattle.rows_model.specs.Changes.{touches}
 use Rattle.lease_table.specs.declared.records.Quar.{Quar}
 use Rattle.sql_keeper.specs.declared.stores.Commit.{Commit}
-use Rattle.key_freshness.specs.Marks.{Mark, Granted, Ended, Has, last_wrote}
+use Rattle.key_freshness.specs.Marks.{Mark, Granted, Ended, Has, HasEnded, last_wrote}
 use Rattle.key_freshness.specs.Known.{Known, StandsAt}
 
--- An entry of this stamp is held: the stamp is a number of known commits, and no commit on the key from the stamp on has ended a quarantine there.
+-- An entry of this stamp is held: the stamp is a number of known commits, and of the commits on the key exactly those before the
+-- stamp have ended a quarantine there.
 pub record IsHeld (key : QKey) (marks : List Mark) (known : Known) (stamp : ℕ) : Type 0 where
   pub within : stamp ≤ length known.log
   pub pending : (place : ℕ) (commit : Commit) (token : ℕ) → StandsAt known.log place commit → stamp ≤ place
       → touches commit.txn key ≡ true → Has (Ended commit.sid.number token) marks → ⊥
+  pub settled : (place : ℕ) (commit : Commit) → StandsAt known.log place commit → place < stamp
+      → touches commit.txn key ≡ true → HasEnded marks commit.sid.number
 
 -- The value is the answer to the key after as many commits as the stamp says. The answer after some commits is a parameter.
 abbrev pub IsRight : (List Commit → List ℕ) → List Commit → List ℕ → ℕ → Type 0

@@ -20,6 +20,11 @@ abbrev pub Has : Mark → List Mark → Type 0
 Has mark [] = ⊥
 Has mark (first ∷ marks) = (first ≡ mark) ⊎ Has mark marks
 
+-- A quarantine of the session ended.
+pub record HasEnded (marks : List Mark) (who : ℕ) : Type 0 where
+  pub token : ℕ
+  pub mark : Has (Ended who token) marks
+
 -- What the end of a quarantine writes.
 abbrev pub writes_by : ends.Ended → List Mark
 writes_by ended.Keep = []

@@ -1,5 +1,5 @@
 -- Which replies belong to a request.
-use Rattle.std.specs.Prelude.{ℕ, ◌≡◌, ◌≤◌, List, Option, Some, None}
+use Rattle.std.specs.Prelude.{ℕ, ◌≡◌, ◌≤◌, List, Option, Some, None, Result, Ok, Err}
 use Rattle.rows_model.specs.declared.keys.QKey.{QKey}
 use Rattle.rows_model.specs.declared.keys.Sid.{Sid}
 use Rattle.lease_table.specs.declared.records.Mode.{Mode}
@@ -104,3 +104,8 @@ Belongs who (wanted.Apply grant stamp) (Reply.Rel answer) = Unit {0}
 Belongs who (wanted.Abort grant) (Reply.Rel answer) = Unit {0}
 Belongs who wanted.Nothing Reply.Nothing = Unit {0}
 Belongs who request reply = ⊥
+
+-- The reply to a get that is told by its answer alone, or by its fault.
+abbrev pub get_reply : Result Got Fault → Reply
+get_reply (Ok answer) = Reply.Got answer
+get_reply (Err fault) = Reply.Fault fault

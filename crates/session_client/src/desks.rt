@@ -1,13 +1,15 @@
-ghost use Rattle.std.specs.Prelude.{◌≡◌, ℕ, Bool, true, List, Option, None, IfOk, OnErr};
+ghost use Rattle.std.specs.Prelude.{◌≡◌, ℕ, Bool, true, Err, List, Option, None, IfOk, OnErr};
 ghost use Rattle.rows_model.specs.declared.keys.Sid.{Sid};
 ghost use Rattle.session_client.specs.declared.replies.Fault.TheVariants as fault;
 ghost use Rattle.session_client.specs.declared.replies.Reply.TheVariants as Reply;
-ghost use Rattle.session_client.specs.Belongs.{Belongs};
+ghost use Rattle.session_client.specs.declared.replies.Wanted.TheVariants as wanted;
+ghost use Rattle.session_client.specs.Belongs.{Belongs, get_reply};
 ghost use Rattle.session_client.specs.Desks.{IsNew, IsProper, Exchange, Began, Asked, with_member, one_more};
 ghost use Rattle.session_client.specs.Desks.{AreIn, IsLatest, BeginsSeen};
 
-use crate::replies::{Reply, Wanted};
-use rows_model::{Memory, Sid};
+use crate::replies::{Fault, Reply, Wanted};
+use key_shard::Got;
+use rows_model::{Memory, QKey, Sid};
 
 /// Where sessions begin and make their requests: the cache and the store behind one face.
 ///
@@ -67,6 +69,32 @@ pub trait Desk {
         ensures seen_begun { AreIn (seen self.new) (begun self.new) }
         ensures spent { result ≡ Reply.Fault fault.Spent → is_spent self.new ≡ true }
         ensures spent_kept { is_spent self.old ≡ true → is_spent self.new ≡ true };
+
+    /// Looks a key up for a session: the call for `Wanted::Get`, whose reply is told by its answer alone,
+    /// or by its fault.
+    fn get(&mut self, sid: Sid, key: QKey, floor: u64) -> Result<Got, Fault>
+        ensures belongs { Belongs sid (wanted.Get key floor) (get_reply result) }
+        ensures begun { begun self.new ≡ begun self.old }
+        ensures recorded { record_of self.new
+            ≡ with_member (Asked sid (wanted.Get key floor) (get_reply result)) (record_of self.old) }
+        ensures tends { tends self.new ≡ tends self.old }
+        ensures worker { worker self.new ≡ worker self.old }
+        ensures first { BeginsSeen (latest self.old) sid (wanted.Get key floor) (get_reply result)
+            (seen self.new) }
+        ensures seen_kept { AreIn (seen self.old) (seen self.new) }
+        ensures seen_begun { AreIn (seen self.new) (begun self.new) }
+        ensures spent { result ≡ Err fault.Spent → is_spent self.new ≡ true }
+        ensures spent_kept { is_spent self.old ≡ true → is_spent self.new ≡ true }
+    {
+        match self.call(sid, Wanted::Get { key, floor }) {
+            Reply::Got { got } => Ok(got),
+            Reply::Fault { fault } => Err(fault),
+            other => {
+                other.let_go();
+                unreachable!()
+            }
+        }
+    }
 
     /// Takes one step of the desk's own sweep for leases that are due to be ended.
     fn tend(&mut self)

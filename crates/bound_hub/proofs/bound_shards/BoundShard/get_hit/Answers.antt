@@ -26,6 +26,17 @@ returns-clause-last g c =
     let is = ap (λ (p : PassView). p.seen) c.into_pass.ensures ∙ made.note.1 ∙ made.seen in
     subst (λ (v : ShardView). IsLastStep v.terms.no step now) c.join.ensures.shard (last_with_step here.shard.terms.no step here.seen now is)
 
+pub returns-clause-held : goal.returns-clause-held
+returns-clause-held g c =
+    let made = c.in_ok-got.ensures in
+    let here = c.join.new.self in
+    let now = c.into_pass.result.seen in
+    let before = g.H.BoundName.before in
+    let answer = c.in_ok-got.got in
+    let same = ap (λ (p : PassView). p.seen) c.into_pass.ensures ∙ made.note.1 in
+    subst (λ (v : ShardView). IsGotHeld g.H.HubName.opening (before v.terms.no) v.terms.no now c.args.key answer) c.join.ensures.shard
+    (subst (λ (v : Seen). IsGotHeld g.H.HubName.opening (before here.shard.terms.no) here.shard.terms.no v c.args.key answer) (sym same) made.held)
+
 pub returns-clause-fresh : goal.returns-clause-fresh
 returns-clause-fresh g c =
     let made = c.in_ok-got.ensures in
