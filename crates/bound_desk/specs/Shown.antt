@@ -22,7 +22,7 @@ use Rattle.session_client.specs.declared.replies.Wanted.{Wanted}
 use Rattle.session_client.specs.declared.replies.Wanted.TheVariants as wanted
 use Rattle.log_word.specs.declared.events.Short.{Short}
 use Rattle.log_word.specs.declared.seen.Seen.{Seen}
-use Rattle.bound_hub.specs.Gets.{got_short, IsGotFresh, IsLastStep}
+use Rattle.bound_hub.specs.Gets.{got_short, IsGotFresh, IsGotHeld, IsLastStep}
 use Rattle.bound_hub.specs.Olds.{IsGrantHeld, IsRaiseHeld}
 use Rattle.bound_hub.specs.StepShorts.{quarantine_short, raise_short, release_short, renew_short, replace_short, set_short}
 use Rattle.bound_desk.specs.Grants.{IsOldTold, IsRaiseTold}
@@ -67,12 +67,13 @@ abbrev pub ShowsRenewing : ℕ → Permit → Renewal → Seen → Type 0
 ShowsRenewing shards grant answer seen =
     answer ≢ renewal.Gone → IsLastOf shards grant.key (renew_short grant.key grant.sid grant.token answer) seen
 
--- What a reply tells: the request's own step is the last that is seen of its shard, a hit is fresh, and an old value is held
--- and right, both unless it is seen that the store has stopped telling its rows. An old value comes along exactly where the key
+-- What a reply tells: the request's own step is the last that is seen of its shard. A hit is held by what is seen, and fresh,
+-- and an old value is held and right, all but the first unless it is seen that the store has stopped telling its rows. An old value comes along exactly where the key
 -- has an entry behind the quarantine. Of a fault `ShowsFault` tells.
 abbrev pub ShowsReply : Tables → (ℕ → List Step) → ℕ → Sid → Wanted → Reply → Seen → Type 0
 ShowsReply opening before shards who (wanted.Get key floor) (Reply.Got got) seen =
     IsLastOf shards key (got_short key who got) seen
+    × IsGotHeld opening (before (shard_of key shards)) (shard_of key shards) seen key got
     × IsGotFresh opening (before (shard_of key shards)) (shard_of key shards) seen key got
 ShowsReply opening before shards who (wanted.Set key token value stamp) (Reply.Set answer) seen =
     IsLastOf shards key (set_short key token stamp answer) seen

@@ -1,7 +1,7 @@
 //! The desk of a worker over a bound hub: each call takes the lock of the key's shard or that of the
 //! store, makes one request there with the desk's book, and lets go.
 ghost use Rattle.std.specs.Prelude.{◌≡◌, []};
-ghost use Rattle.session_client.specs.Belongs.{Belongs};
+ghost use Rattle.session_client.specs.Belongs.{Belongs, get_reply};
 ghost use Rattle.desk_book.specs.Books.{empty_book};
 ghost use Rattle.desk_book.specs.Borne.{IsPut};
 ghost use Rattle.bound_desk.specs.Records.{IsRecordSeen};
@@ -9,7 +9,7 @@ ghost use Rattle.bound_desk.specs.Safe.{drop_reply};
 ghost use Rattle.bound_desk.specs.Told.{back_reply, AreShown};
 
 use crate::bound_books::BoundBook;
-use crate::records::Record;
+use crate::records::{Look, Record};
 use crate::requests::is_raise;
 use crate::sweeps::{BoundSweep, drop_lapsed};
 use crate::turns::{is_timed, turn_to_due};
@@ -19,10 +19,10 @@ use executor::key_of;
 use expiry_sweeper::{SweepReply, SweepWanted, Sweeper};
 use http_server::Log;
 use iq_outside::{Clock, Gate, Point};
-use key_shard::{Raising, Rel};
+use key_shard::{Got, Raising, Rel};
 use log_word::Pass;
 use rows_model::{Memory, QKey, Sid};
-use session_client::{Desk, Reply, Wanted};
+use session_client::{Desk, Fault, Reply, Wanted};
 use sql_keeper::Keeper;
 use std::alloc::Global;
 use std::marker::Model;
@@ -158,33 +158,38 @@ impl<'a, K: Keeper, H: BoundName, C: Clock, G: Gate, R: Wait> Desk
         Ok(sid)
     }
 
-    /// Makes a session's request as its book bears it out, and else in its safe form. A get is tried as a hit
-    /// first, for which no clock is read. Where a reader is told that a quarantine stands, and one is due on
-    /// that shard, the worker's sweeper looks there next.
-    fn call(&mut self, who: Sid, request: Wanted) -> Reply {
-        let asked = Log::new().and(&who, &request);
+    /// Looks a key up for a session: as a hit first, for which no clock is read. Where a reader is told that a
+    /// quarantine stands, and one is due on that shard, the worker's sweeper looks there next.
+    fn get(&mut self, who: Sid, key: QKey, floor: u64) -> Result<Got, Fault> {
         let word = self.hub.word();
+        let mut shard = self.hub.lock_of(self.rt, &key);
+        let place = shard.no();
+        self.gate.at(self.worker, Point::Inside { shard: place });
+        let answer = match self.notes.reply_to_hit(word, &mut *shard, who, key, floor) {
+            Some(got) => Ok(got),
+            None => {
+                let now = self.clock.now();
+                let answer = self
+                    .notes
+                    .reply_to_get(word, &mut *shard, who, key, floor, now);
+                turn_to_due(&mut self.sweeper, place, &answer, shard.next_due(), now);
+                self.hub.note_due(place, shard.next_look());
+                answer
+            }
+        };
+        self.calls = self.calls.looked(&Look { who, key, floor }, &answer);
+        answer
+    }
+
+    /// Makes a session's request as its book bears it out, and else in its safe form. A get is made by `get`.
+    fn call(&mut self, who: Sid, request: Wanted) -> Reply {
         if let Wanted::Get { key, floor } = &request {
             let (key, floor) = (*key, *floor);
             request.let_go();
-            let mut shard = self.hub.lock_of(self.rt, &key);
-            let place = shard.no();
-            self.gate.at(self.worker, Point::Inside { shard: place });
-            let reply = match self.notes.reply_to_hit(word, &mut *shard, who, key, floor) {
-                Some(reply) => reply,
-                None => {
-                    let now = self.clock.now();
-                    let reply = self
-                        .notes
-                        .reply_to_get(word, &mut *shard, who, key, floor, now);
-                    turn_to_due(&mut self.sweeper, place, &reply, shard.next_due(), now);
-                    self.hub.note_due(place, shard.next_look());
-                    reply
-                }
-            };
-            self.calls = self.calls.asked(&asked, &reply);
-            return reply;
+            return told(self.get(who, key, floor));
         }
+        let asked = Log::new().and(&who, &request);
+        let word = self.hub.word();
         let raises = is_raise(&request);
         let reply = match self.notes.made(who, request) {
             Ok(Made::One { request }) => match key_of(&request) {
@@ -277,6 +282,16 @@ impl<'a, K: Keeper, H: BoundName, C: Clock, G: Gate, R: Wait> Desk
             }
         };
         self.sweeper.hear(reply);
+    }
+}
+
+/// The reply to a get that was answered so.
+fn told(answer: Result<Got, Fault>) -> Reply
+    ensures { result ≡ get_reply answer }
+{
+    match answer {
+        Ok(got) => Reply::Got { got },
+        Err(fault) => Reply::Fault { fault },
     }
 }
 

@@ -21,8 +21,7 @@ use Rattle.session_client.specs.Belongs.{Belongs}
 use Rattle.bound_desk.specs.Bound.{BoundDeskView}
 use Rattle.bound_desk.specs.Safe.{drop_reply, is_raise, IsSafelyMade, MadeBelongs}
 use Rattle.bound_desk.proofs.RecordLemmas.{asked_since, first_has_key, not_back, not_dropped, not_told, one_is, record_as_asked, shows_where_fresh}
-use Rattle.bound_desk.proofs.ToldLemmas.{closed_by, ended_alone, ended_and_dropped, get_is_answered, made_at_store, made_of_nothing, made_on_shard, shown_with_reply}
-use Rattle.bound_desk.proofs.desks.BoundDeskDesk.call.Goals.{in-Some, in-None}
+use Rattle.bound_desk.proofs.ToldLemmas.{closed_by, ended_alone, ended_and_dropped, made_at_store, made_of_nothing, made_on_shard, shown_with_reply}
 use Rattle.bound_desk.proofs.desks.BoundDeskDesk.call.Goals.{in-Ok-One+in-Some-key_of, in-Ok-One+in-None-key_of, in-Ok-One+in-None-2, in-Ok-EndDrop+then-is_over, in-Ok-EndDrop+else-is_over, in-Ok-Answered, in-Err}
 use Rattle.bound_desk.proofs.desks.BoundDeskDesk.call.Goals as goal
 
@@ -36,7 +35,7 @@ pub invariant_of-self : goal.invariant_of-self
 invariant_of-self g c =
     let who = c.args.who in
     let request = c.args.request in
-    let reply = c.match-reply_to_hit.reply in
+    let reply = c.match-made.reply in
     let old = c.self.inside in
     let opening = g.H.HubName.opening in
     let cap = g.H.HubName.cap in
@@ -45,65 +44,6 @@ invariant_of-self g c =
     let shards = g.H.BoundName.word.shards in
     let now = c.asked-self-inside.result in
     let is = c.asked-self-inside.ensures who request (c.and-asked.ensures ∙ ap (λ l. l ++ (who, request) ∷ []) c.new.ensures) in
-    let Fits : (s : Inside g.row.K.Denot g.row.H.Denot g.row.C.Denot g.row.G.Denot g.row.R.Denot) → Type 0 = λ s.
-    (shards_of s.sweeper ≡ s.hub.now) × IsRecordSeen terms before shards s.worker now s.notes.seen × IsFreshBook now s.notes.book.book
-    × AreShown opening cap terms before shards now s.notes.book.book s.notes.seen in
-    let fits : (s : Inside g.row.K.Denot g.row.H.Denot g.row.C.Denot g.row.G.Denot g.row.R.Denot) → c.match-reply_to_hit.self-inside ≡ s
-    → shards_of s.sweeper ≡ s.hub.now → s.worker ≡ old.worker → s.calls ≡ old.calls → IsBeginning old.notes.seen s.notes.seen
-    → ((writes : Bool) → old.notes.book.book ≡ first_book who writes → IsFirst writes request → ShowsFirst terms before shards who reply s.notes.seen)
-    → IsAnswered opening cap terms before shards who request reply old.notes.book.book s.notes.book.book old.notes.seen s.notes.seen
-    → Fits c.match-reply_to_hit.self-inside =
-    λ s at sweep worker calls goes shows answered.
-    let here : now ≡ Asked who request reply ∷ old.calls =
-    is ∙ ap (λ (x : Inside g.row.K.Denot g.row.H.Denot g.row.C.Denot g.row.G.Denot g.row.R.Denot). Asked who request reply ∷ x.calls) at ∙ ap (λ (l : List Exchange). Asked who request reply ∷ l) calls in
-    subst Fits (sym at) (
-      sweep,
-      subst (λ n. IsRecordSeen terms before shards n now s.notes.seen) (sym worker)
-          (record_as_asked terms before shards old.worker old.calls now old.notes.seen s.notes.seen who request reply here goes
-          (shows_where_fresh terms before shards old.calls old.notes.book.book s.notes.seen who request reply c.self.invariant.2 shows) c.self.invariant.1),
-      asked_since now old.calls who request reply s.notes.book.book here,
-      shown_with_reply opening cap terms before shards who request reply old.calls now old.notes.book.book s.notes.book.book old.notes.seen s.notes.seen here answered
-          c.self.invariant.3,
-    ) in
-    let key = c.in-Get.key in
-    let floor = c.in-Get.floor in
-    let answers : (told : Reply) (book : Book) (seen : Seen) → reply ≡ told → Belongs who (wanted.Get key floor) told → IsBeginning old.notes.seen seen
-    → ShowsReply opening before shards who (wanted.Get key floor) told seen → ShowsFault terms before shards (wanted.Get key floor) told seen
-    → book ≡ book_after who (wanted.Get key floor) told old.notes.book.book
-    → IsAnswered opening cap terms before shards who request reply old.notes.book.book book old.notes.seen seen =
-    λ told book seen same belongs begins shows refused noted.
-    subst (λ q. IsAnswered opening cap terms before shards who q reply old.notes.book.book book old.notes.seen seen) (sym c.in-Get.is)
-    (subst (λ r. IsAnswered opening cap terms before shards who (wanted.Get key floor) r old.notes.book.book book old.notes.seen seen) (sym same)
-    (get_is_answered opening cap terms before shards who key floor told old.notes.book.book book old.notes.seen seen belongs begins shows refused noted)) in
-    elim c.match-reply_to_hit.branch [
-      | in-Some w ↦
-          fits _ w.self-inside-is c.self.invariant.0 refl refl c.reply_to_hit.ensures.seen
-          (λ writes fresh first. subst (λ r. ShowsFirst terms before shards who r c.reply_to_hit.new.self.seen) (sym w.reply-is) w.in-Some.ensures.first)
-          (answers w.in-Some.reply c.reply_to_hit.new.self.book.book c.reply_to_hit.new.self.seen w.reply-is w.in-Some.ensures.belongs c.reply_to_hit.ensures.seen
-          w.in-Some.ensures.shows w.in-Some.ensures.fault w.in-Some.ensures.book)
-      | in-None w ↦
-          let got = w.reply_to_get-reply in
-          fits _ w.self-inside-is (w.turn_to_due.ensures ∙ c.self.invariant.0) refl refl
-          (beginning_trans old.notes.seen c.reply_to_hit.new.self.seen got.new.self.seen c.reply_to_hit.ensures.seen got.ensures.seen)
-          (λ writes fresh first. subst (λ r. ShowsFirst terms before shards who r got.new.self.seen) (sym w.reply-is) got.ensures.first)
-          (answers got.result got.new.self.book.book got.new.self.seen w.reply-is got.ensures.belongs
-          (beginning_trans old.notes.seen c.reply_to_hit.new.self.seen got.new.self.seen c.reply_to_hit.ensures.seen got.ensures.seen) got.ensures.shows got.ensures.fault
-          (got.ensures.book ∙ ap (λ (b : BookView). book_after who (wanted.Get key floor) got.result b.book) w.in-None.ensures.none))
-    ]
-
-pub invariant_of-self-2 : goal.invariant_of-self-2
-invariant_of-self-2 g c =
-    let who = c.args.who in
-    let request = c.args.request in
-    let reply = c.match-made.reply in
-    let old = c.self.inside in
-    let opening = g.H.HubName.opening in
-    let cap = g.H.HubName.cap in
-    let terms = g.H.HubName.terms in
-    let before = g.H.BoundName.before in
-    let shards = g.H.BoundName.word.shards in
-    let now = c.asked-self-inside-2.result in
-    let is = c.asked-self-inside-2.ensures who request (c.and-asked.ensures ∙ ap (λ l. l ++ (who, request) ∷ []) c.new.ensures) in
     let asks = c.made.ensures.first in
     let kept = old.notes.book.book in
     let Fits : (s : Inside g.row.K.Denot g.row.H.Denot g.row.C.Denot g.row.G.Denot g.row.R.Denot) → Type 0 = λ s.
@@ -241,7 +181,7 @@ returns g c =
     let request = c.args.request in
     let reply = c.match-made.reply in
     let old = c.self.inside in
-    let is = c.asked-self-inside-2.ensures who request (c.and-asked.ensures ∙ ap (λ l. l ++ (who, request) ∷ []) c.new.ensures) in
+    let is = c.asked-self-inside.ensures who request (c.and-asked.ensures ∙ ap (λ l. l ++ (who, request) ∷ []) c.new.ensures) in
     let kept : c.match-made.self-inside.calls ≡ old.calls = elim c.match-made.branch [
       | in-Ok-One+in-Some-key_of w ↦ ap (λ (x : Inside g.row.K.Denot g.row.H.Denot g.row.C.Denot g.row.G.Denot g.row.R.Denot). x.calls) w.self-inside-is
       | in-Ok-One+in-None-key_of w ↦ ap (λ (x : Inside g.row.K.Denot g.row.H.Denot g.row.C.Denot g.row.G.Denot g.row.R.Denot). x.calls) w.self-inside-is
