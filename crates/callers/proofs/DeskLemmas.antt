@@ -83,10 +83,10 @@ pub served_fresh : (opening : Tables) (before : ℕ → List Step) (shards : ℕ
     → IsServedFresh IsRunning opening shards old new key floor value stamp
 served_fresh opening before shards who key floor old new value stamp belongs begins shows = record {
   floor_met = belongs;
-  known = λ running. (shows.1 running).2.known;
-  right = λ running. (shows.1 running).2.right;
+  known = λ running. (shows.2 running).2.known;
+  right = λ running. (shows.2 running).2.right;
   current = λ running place commit at touched released.
-      let hit = shows.1 running in
+      let hit = shows.2 running in
       let number = shard_of key shards in
       let p = releases key commit.sid.number in
       let now = still_among p (steps_of number old.steps) (steps_of number new.steps) (begins.steps number) released in
@@ -145,7 +145,7 @@ get_made form.NotCommitted who key floor = refl
 get_made form.HeldAlone who key floor = refl
 
 module _ (opening : Tables) (cap : ℕ) (terms : ℕ → Terms) (before : ℕ → List Step) (shards : ℕ) where
-  get_shown : (who : Sid) (key : QKey) (floor : ℕ) (reply : AReply) (since book : Book) (old new : Seen) (way : Result Made Wanted)
+  pub get_shown : (who : Sid) (key : QKey) (floor : ℕ) (reply : AReply) (since book : Book) (old new : Seen) (way : Result Made Wanted)
       → IsMadeBy since who (wanted.Get key floor) way → IsShownAs opening cap terms before shards who (wanted.Get key floor) reply way since book old new
       → ShowsReply opening before shards who (wanted.Get key floor) reply new
   get_shown who key floor reply since book old new (Ok one) by_book shown =
@@ -153,25 +153,3 @@ module _ (opening : Tables) (cap : ℕ) (terms : ℕ → Terms) (before : ℕ �
       (by_book.2 ∙ get_made by_book.0 who key floor) shown in
       as_asked.on_shard
   get_shown who key floor reply since book old new (Err back) by_book shown = absurd by_book.0
-
-  -- what calls show says that their hits are fresh; of a caller's own writes and of earlier reads it is a premise yet
-  pub served_calls : ((calls : List Exchange) (book : Book) (seen after : Seen) (key : QKey) (floor : ℕ) (value : List ℕ) (stamp : ℕ)
-      → AreShown opening cap terms before shards calls book seen → IsBeginning seen after → IsServedFresh IsRunning opening shards seen after key floor value stamp
-      → IsRunning after → HoldsOwn calls key stamp)
-      → ((calls : List Exchange) (book : Book) (seen after : Seen) (key : QKey) (floor : ℕ) (value : List ℕ) (stamp : ℕ)
-      → AreShown opening cap terms before shards calls book seen → IsBeginning seen after → IsServedFresh IsRunning opening shards seen after key floor value stamp
-      → IsRunning after → IsNoOlderThan calls (commits_of after.events) key stamp)
-      → (calls : List Exchange) (book : Book) (seen : Seen) → AreShown opening cap terms before shards calls book seen → AreServed IsRunning opening shards calls seen
-  served_calls own older [] book seen h = tt
-  served_calls own older (Asked who (wanted.Get key floor) (Reply.Got (got.Hit value stamp)) ∷ calls) book seen h =
-      let answered = h.4 in
-      let fresh = served_fresh opening before shards who key floor h.1 h.2 value stamp answered.belongs answered.begins
-      (get_shown who key floor (Reply.Got (got.Hit value stamp)) h.0 book h.1 h.2 answered.way answered.by_book answered.shown) in
-      (h.1, h.2, answered.begins, h.3, record {
-        fresh = fresh;
-        own = own calls h.0 h.1 h.2 key floor value stamp h.5 answered.begins fresh;
-        no_older = older calls h.0 h.1 h.2 key floor value stamp h.5 answered.begins fresh;
-      }, served_calls own older calls h.0 h.1 h.5)
-  served_calls own older (Began writes who ∷ calls) book seen h = (h.2, h.3, served_calls own older calls h.1 h.2 h.4)
-  served_calls own older (Asked who request reply ∷ calls) book seen h =
-      (h.1, beginning_trans h.1 h.2 seen h.4.begins h.3, served_calls own older calls h.0 h.1 h.5)

@@ -9,3 +9,4 @@ pub mod DropLemmas
 pub mod DeskLemmas
 pub mod SaveLemmas
 pub mod OwnLemmas
+pub mod ServedLemmas
