@@ -26,7 +26,7 @@ use Rattle.key_freshness.specs.Held.{IsHeld, IsEntryHeld, IsTied}
 use Rattle.key_freshness.specs.Laws.{IsHonest, EndsItsOwn, with_commit, with_end}
 use Rattle.key_freshness.proofs.GrantMarks.{none_in, no_grant}
 use Rattle.key_freshness.proofs.KnownLemmas.{more-refl, more-trans, more-length}
-use Rattle.key_freshness.proofs.MomentLemmas.{more_is_held, stored_is_latest}
+use Rattle.key_freshness.proofs.MomentLemmas.{more_is_held, stored_is_latest, stored_is_settled}
 use Rattle.key_freshness.proofs.MomentSteps.{moment-of-none, since-append}
 use Rattle.key_freshness.proofs.StepLemmas.{steps_keep}
 use Rattle.key_freshness.proofs.TieLemmas.{steps_tie}
@@ -204,6 +204,9 @@ set_held shape past who on token value stamp holds sets =
       pending = λ place commit by at late touched ended.
           stored_is_latest on lease.then_marks (marks_of on (steps_at shape past on)) lease.then_known
           (known_of past) stamp lease.moment lease.since lease.more (holds.ruled on) (let h = stamped.0 in omega (arith, h, is)) place commit at late touched;
+      settled = λ place commit at low touched.
+          stored_is_settled on lease.then_marks (marks_of on (steps_at shape past on)) lease.then_known (known_of past) stamp
+          lease.moment lease.since (holds.ruled on) place commit at touched;
     }
 
 -- so a good step is honest
