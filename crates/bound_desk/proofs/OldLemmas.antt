@@ -14,8 +14,9 @@ use Rattle.key_shard.specs.declared.replies.Renewal.TheVariants as renewal
 use Rattle.key_shard.specs.declared.replies.ShardFault.{ShardFault}
 use Rattle.key_shard.specs.declared.replies.ShardFault.TheVariants as faults
 use Rattle.key_shard.specs.declared.steps.Step.{Step}
-use Rattle.key_shard.specs.Answers.{quarantine_step, raise_step}
-use Rattle.key_shard.specs.Past.{Terms, entry}
+use Rattle.key_shard.specs.declared.steps.Step.TheVariants as step
+use Rattle.key_shard.specs.Answers.{granted_step, quarantine_step, raise_step}
+use Rattle.key_shard.specs.Past.{Terms, entry, next_token}
 use Rattle.key_shard.specs.Permit.{Permit}
 use Rattle.key_shard.specs.Replies.{ShowsQuarantine, ShowsRaise}
 use Rattle.key_shard.specs.Shards.{ShardView, after_raise, past_of, stepped}
@@ -40,10 +41,10 @@ quarantine_told terms past key who shift now shards seen answer has =
     let F : Step → QAnswer → Type 0 = λ s a. has ≡ is_some (entry key (s ∷ past))
     → IsLastStep (shard_of key shards) (quarantine_short key who Refresh shift a has) seen → IsOldTold shards key who shift Refresh seen a in
     quarantine_cases (λ s. ShowsQuarantine terms past s answer → F s answer) terms past key who Refresh shift now
-    (λ none shows. subst (F _) (sym shows)
-    (λ is last. subst (λ b. IsLastStep (shard_of key shards) (granted_short key who Refresh shift _ b) seen) is last))
-    (λ shows. subst (F _) (sym shows) (λ is last. tt))
-    (λ quar at shows. subst (F _) (sym shows) (λ is last. tt))
+    (λ none shows. subst (F (granted_step terms past key who Refresh shift now)) (sym shows)
+    (λ is last. subst (λ b. IsLastStep (shard_of key shards) (granted_short key who Refresh shift (next_token terms past) b) seen) is last))
+    (λ shows. subst (F (step.Held key who Refresh)) (sym shows) (λ is last. tt))
+    (λ quar at shows. subst (F (step.Refused key who Refresh quar.sid quar.mode)) (sym shows) (λ is last. tt))
 
 told_in : (terms : Terms) (past : List Step) (key : QKey) (who : Sid) (mode : Mode) (shift : ℤ) (now : ℕ) (shards : ℕ) (seen : Seen) (answer : QAnswer) (has : Bool)
     → ShowsQuarantine terms past (quarantine_step terms past key who mode shift now) answer

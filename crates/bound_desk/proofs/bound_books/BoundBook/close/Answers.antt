@@ -40,7 +40,7 @@ returns-clause-shows g c = (
   c.end-closed.result.was,
   c.end-closed.ensures.shows,
   λ opened. elim c.if-was.branch [
-    | then-was w ↦ w.result-is
+    | then-was w ↦ w.result-is ∙ w.if-was.true
     | else-was w ↦ absurd (false≢true (sym (sym c.was.ensures ∙ w.if-was.false) ∙ opened))
   ],
 )
