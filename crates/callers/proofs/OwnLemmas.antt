@@ -101,9 +101,12 @@ module _ (opening : Tables) (cap : ℕ) (terms : ℕ → Terms) (before : ℕ �
       → IsBeginning new after → IsPlacedIn who number txn after
   placed_in who number txn permits new after shows begins =
       let log = commits_of shows.earlier in
-      let mine : Commit = record { sid = who; txn = txn } in
-      (length log, shows.number_is, more-stands (more_is_known new after begins) (length log) mine
-      (subst (λ e. slice_get (commits_of e) (length log) ≡ Some mine) (sym shows.last) (stands_last log mine)))
+      let mine : Commit = record { sid = who; txn = txn } in (
+        length log,
+        shows.number_is,
+        more-stands (more_is_known new after begins) (length log) mine
+            (subst (λ e. slice_get (commits_of e) (length log) ≡ Some mine) (sym shows.last) (stands_last log mine)),
+      )
 
   -- a commit that was told stands at its place
   own_commit : (who : Sid) (number : ℕ) (txn : List Change) (after : Seen) (calls : List Exchange) (book : Book) (seen : Seen)

@@ -65,8 +65,7 @@ module _ (opening : Tables) (cap : ℕ) (terms : ℕ → Terms) (before : ℕ �
   no_older_than [] book seen after key value stamp h begins held = tt
   no_older_than (Asked who (wanted.Get on floor) (Reply.Got (got.Hit earlier first)) ∷ calls) book seen after key value stamp h begins held =
       let goes = beginning_trans h.2 seen after h.3 begins in
-      let shows = get_shown opening cap terms before shards who on floor (Reply.Got (got.Hit earlier first)) h.0 book h.1 h.2 h.4.way h.4.by_book h.4.shown in
-      (
+      let shows = get_shown opening cap terms before shards who on floor (Reply.Got (got.Hit earlier first)) h.0 book h.1 h.2 h.4.way h.4.by_book h.4.shown in (
         λ same. later_is_no_older key earlier value first stamp h.2 after goes
             (subst (λ k. IsSeenHeld opening (before (shard_of k shards)) (shard_of k shards) h.2 k earlier first) same shows.1) held,
         no_older_than calls h.0 h.1 after key value stamp h.5 (beginning_trans h.1 h.2 after h.4.begins goes) held,
@@ -82,12 +81,18 @@ module _ (opening : Tables) (cap : ℕ) (terms : ℕ → Terms) (before : ℕ �
   served_calls (Asked who (wanted.Get key floor) (Reply.Got (got.Hit value stamp)) ∷ calls) book seen h =
       let answered = h.4 in
       let shows = get_shown opening cap terms before shards who key floor (Reply.Got (got.Hit value stamp)) h.0 book h.1 h.2 answered.way answered.by_book answered.shown in
-      let fresh = served_fresh opening before shards who key floor h.1 h.2 value stamp answered.belongs answered.begins shows in
-      (h.1, h.2, answered.begins, h.3, record {
-        fresh = fresh;
-        own = holds_own opening cap terms before shards calls h.0 h.1 h.2 key floor value stamp h.5 answered.begins fresh;
-        no_older = λ running. no_older_than calls h.0 h.1 h.2 key value stamp h.5 answered.begins shows.1;
-      }, served_calls calls h.0 h.1 h.5)
+      let fresh = served_fresh opening before shards who key floor h.1 h.2 value stamp answered.belongs answered.begins shows in (
+        h.1,
+        h.2,
+        answered.begins,
+        h.3,
+        record {
+          fresh = fresh;
+          own = holds_own opening cap terms before shards calls h.0 h.1 h.2 key floor value stamp h.5 answered.begins fresh;
+          no_older = λ running. no_older_than calls h.0 h.1 h.2 key value stamp h.5 answered.begins shows.1;
+        },
+        served_calls calls h.0 h.1 h.5,
+      )
   served_calls (Began writes who ∷ calls) book seen h = (h.2, h.3, served_calls calls h.1 h.2 h.4)
   served_calls (Asked who request reply ∷ calls) book seen h =
       (h.1, beginning_trans h.1 h.2 seen h.4.begins h.3, served_calls calls h.0 h.1 h.5)

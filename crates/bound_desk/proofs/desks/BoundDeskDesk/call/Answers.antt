@@ -1,4 +1,5 @@
 use Rattle.std.proofs.Common.{rules, Some, ◌≡◌, Bool, true, Ok, Err, List, inr, [], ◌∷◌, ◌++◌, refl, sym, ap, subst, ◌∙◌}
+use Rattle.std.proofs.lemmas.Bool.{false≢true}
 use Rattle.rows_model.specs.declared.keys.Sid.{Sid}
 use Rattle.expiry_sweeper.specs.Follows.{shards_of}
 use Rattle.session_client.specs.Desks.{Exchange, Asked, IsFirst}
@@ -22,7 +23,8 @@ use Rattle.bound_desk.specs.Bound.{BoundDeskView}
 use Rattle.bound_desk.specs.Safe.{drop_reply, is_raise, IsSafelyMade, MadeBelongs}
 use Rattle.bound_desk.proofs.RecordLemmas.{asked_since, first_has_key, not_back, not_dropped, not_told, one_is, record_as_asked, shows_where_fresh}
 use Rattle.bound_desk.proofs.ToldLemmas.{closed_by, ended_alone, ended_and_dropped, made_at_store, made_of_nothing, made_on_shard, shown_with_reply}
-use Rattle.bound_desk.proofs.desks.BoundDeskDesk.call.Goals.{in-Ok-One+in-Some-key_of, in-Ok-One+in-None-key_of, in-Ok-One+in-None-2, in-Ok-EndDrop+then-is_over, in-Ok-EndDrop+else-is_over, in-Ok-Answered, in-Err}
+use Rattle.bound_desk.proofs.desks.BoundDeskDesk.call.Goals.{in-Ok-One+in-Some, in-Ok-One+in-None, in-Ok-One+in-None-2, in-Ok-EndDrop+then-is_over, in-Ok-EndDrop+else-is_over, in-Ok-Answered, in-Err}
+use Rattle.bound_desk.proofs.desks.BoundDeskDesk.call.Goals.{in-Nothing, in_default-matches}
 use Rattle.bound_desk.proofs.desks.BoundDeskDesk.call.Goals as goal
 
 pub drop_value-answer-requires-clause-over : goal.drop_value-answer-requires-clause-over
@@ -67,7 +69,7 @@ invariant_of-self g c =
           c.self.invariant.3,
     ) in
     elim c.match-made.branch [
-      | in-Ok-One+in-Some-key_of w ↦
+      | in-Ok-One+in-Some w ↦
           let shows : (writes : Bool) → old.notes.book.book ≡ first_book who writes → IsFirst writes request
           → ShowsFirst terms before shards who reply w.on_shard-reply.new.self.seen =
           λ writes fresh first.
@@ -83,28 +85,32 @@ invariant_of-self g c =
             way = Ok (made.One w.in-Ok-One.request);
             by_book = (w.in-Ok-One.ensures.form.0, w.in-Ok-One.ensures.form.1, sym w.in-Ok-One.field-0-is ∙ w.in-Ok-One.ensures.form.2);
             shown = subst (λ r. IsMadeAs opening cap terms before shards who w.in-Ok-One.request r kept w.on_shard-reply.new.self.book.book old.notes.seen w.on_shard-reply.new.self.seen) (sym w.reply-is)
-                (made_on_shard opening cap terms before shards w.in-Some-key_of.key who w.in-Ok-One.request w.on_shard-reply.result kept w.on_shard-reply.new.self.book.book old.notes.seen
-                w.on_shard-reply.new.self.seen (sym w.key_of.ensures.key ∙ w.in-Some-key_of.is) w.on_shard-reply.ensures.shows w.on_shard-reply.ensures.fault w.on_shard-reply.ensures.book);
+                (made_on_shard opening cap terms before shards w.in-Some.key who w.in-Ok-One.request w.on_shard-reply.result kept w.on_shard-reply.new.self.book.book old.notes.seen
+                w.on_shard-reply.new.self.seen (sym w.key_of.ensures.key ∙ w.in-Some.is) w.on_shard-reply.ensures.shows w.on_shard-reply.ensures.fault w.on_shard-reply.ensures.book);
           })
-      | in-Ok-One+in-None-key_of w ↦
+      | in-Ok-One+in-None w ↦
           fits _ w.self-inside-is c.self.invariant.0 refl refl (beginning_same old.notes.seen)
           (λ writes fresh first. absurd (first_has_key writes w.in-Ok-One.request
           (subst (IsFirst writes) (one_is request w.in-Ok-One.request c.made.result (asks writes fresh first) (w.in-Ok-One.is ∙ ap (λ m. Ok m) w.in-Ok-One.field-0-is)) first)
-          (sym w.key_of.ensures.key ∙ w.in-None-key_of.is)))
+          (sym w.key_of.ensures.key ∙ w.in-None.is)))
           (record {
             proper = c.requires;
             belongs = search rules;
             begins = beginning_same old.notes.seen;
             way = Ok (made.One w.in-Ok-One.request);
             by_book = (w.in-Ok-One.ensures.form.0, w.in-Ok-One.ensures.form.1, sym w.in-Ok-One.field-0-is ∙ w.in-Ok-One.ensures.form.2);
-            shown = subst (λ q. IsMadeAs opening cap terms before shards who q reply kept kept old.notes.seen old.notes.seen) (sym w.in-Nothing.is)
-                (made_of_nothing opening cap terms before shards who reply kept old.notes.seen old.notes.seen);
+            shown = elim w.match-matches.branch [
+              | in-Nothing none ↦
+                  subst (λ q. IsMadeAs opening cap terms before shards who q reply kept kept old.notes.seen old.notes.seen) (sym none.in-Nothing.is)
+                  (made_of_nothing opening cap terms before shards who reply kept old.notes.seen old.notes.seen)
+              | in_default-matches other ↦ absurd (false≢true (sym other.matches-is ∙ w.if-matches.true))
+            ];
           })
       | in-Ok-One+in-None-2 w ↦
           fits _ w.self-inside-is c.self.invariant.0 refl refl w.at_store.ensures.seen
           (λ writes fresh first. absurd (first_has_key writes w.in-Ok-One.request
           (subst (IsFirst writes) (one_is request w.in-Ok-One.request c.made.result (asks writes fresh first) (w.in-Ok-One.is ∙ ap (λ m. Ok m) w.in-Ok-One.field-0-is)) first)
-          (sym w.key_of.ensures.key ∙ w.in-None-key_of.is)))
+          (sym w.key_of.ensures.key ∙ w.in-None.is)))
           (record {
             proper = c.requires;
             belongs = subst (Belongs who request) (sym w.reply-is)
@@ -114,7 +120,7 @@ invariant_of-self g c =
             by_book = (w.in-Ok-One.ensures.form.0, w.in-Ok-One.ensures.form.1, sym w.in-Ok-One.field-0-is ∙ w.in-Ok-One.ensures.form.2);
             shown = subst (λ r. IsMadeAs opening cap terms before shards who w.in-Ok-One.request r kept w.at_store.new.self.book.book old.notes.seen w.at_store.new.self.seen) (sym w.reply-is)
                 (made_at_store opening cap terms before shards who w.in-Ok-One.request w.at_store.result kept w.at_store.new.self.book.book old.notes.seen w.at_store.new.self.seen
-                (sym w.key_of.ensures.key ∙ w.in-None-key_of.is) w.at_store.ensures.shows w.at_store.ensures.book);
+                (sym w.key_of.ensures.key ∙ w.in-None.is) w.at_store.ensures.shows w.at_store.ensures.book);
           })
       | in-Ok-EndDrop+then-is_over w ↦
           fits _ w.self-inside-is c.self.invariant.0 refl refl
@@ -167,11 +173,11 @@ invariant_of-self g c =
           (λ writes fresh first. absurd (not_back w.in-Err.request request c.made.result w.in-Err.is (asks writes fresh first)))
           (record {
             proper = c.requires;
-            belongs = subst (Belongs who request) (sym w.reply-is) (subst (λ q. Belongs who q w.back.result) w.in-Err.ensures.back (w.back.ensures.belongs who));
+            belongs = subst (Belongs who request) (sym w.reply-is) (subst (λ q. Belongs who q w.back-reply.result) w.in-Err.ensures.back (w.back-reply.ensures.belongs who));
             begins = beginning_same old.notes.seen;
             way = Err w.in-Err.request;
             by_book = (w.in-Err.ensures.memory, w.in-Err.ensures.back);
-            shown = (w.reply-is ∙ w.back.ensures.reply ∙ ap back_reply w.in-Err.ensures.back, refl);
+            shown = (w.reply-is ∙ w.back-reply.ensures.reply ∙ ap back_reply w.in-Err.ensures.back, refl);
           })
     ]
 
@@ -183,8 +189,8 @@ returns g c =
     let old = c.self.inside in
     let is = c.asked-self-inside.ensures who request (c.and-asked.ensures ∙ ap (λ l. l ++ (who, request) ∷ []) c.new.ensures) in
     let kept : c.match-made.self-inside.calls ≡ old.calls = elim c.match-made.branch [
-      | in-Ok-One+in-Some-key_of w ↦ ap (λ (x : Inside g.row.K.Denot g.row.H.Denot g.row.C.Denot g.row.G.Denot g.row.R.Denot). x.calls) w.self-inside-is
-      | in-Ok-One+in-None-key_of w ↦ ap (λ (x : Inside g.row.K.Denot g.row.H.Denot g.row.C.Denot g.row.G.Denot g.row.R.Denot). x.calls) w.self-inside-is
+      | in-Ok-One+in-Some w ↦ ap (λ (x : Inside g.row.K.Denot g.row.H.Denot g.row.C.Denot g.row.G.Denot g.row.R.Denot). x.calls) w.self-inside-is
+      | in-Ok-One+in-None w ↦ ap (λ (x : Inside g.row.K.Denot g.row.H.Denot g.row.C.Denot g.row.G.Denot g.row.R.Denot). x.calls) w.self-inside-is
       | in-Ok-One+in-None-2 w ↦ ap (λ (x : Inside g.row.K.Denot g.row.H.Denot g.row.C.Denot g.row.G.Denot g.row.R.Denot). x.calls) w.self-inside-is
       | in-Ok-EndDrop+then-is_over w ↦ ap (λ (x : Inside g.row.K.Denot g.row.H.Denot g.row.C.Denot g.row.G.Denot g.row.R.Denot). x.calls) w.self-inside-is
       | in-Ok-EndDrop+else-is_over w ↦ ap (λ (x : Inside g.row.K.Denot g.row.H.Denot g.row.C.Denot g.row.G.Denot g.row.R.Denot). x.calls) w.self-inside-is
@@ -192,8 +198,8 @@ returns g c =
       | in-Err w ↦ ap (λ (x : Inside g.row.K.Denot g.row.H.Denot g.row.C.Denot g.row.G.Denot g.row.R.Denot). x.calls) w.self-inside-is
     ] in
     let same : c.match-made.self-inside.worker ≡ old.worker = elim c.match-made.branch [
-      | in-Ok-One+in-Some-key_of w ↦ ap (λ (x : Inside g.row.K.Denot g.row.H.Denot g.row.C.Denot g.row.G.Denot g.row.R.Denot). x.worker) w.self-inside-is
-      | in-Ok-One+in-None-key_of w ↦ ap (λ (x : Inside g.row.K.Denot g.row.H.Denot g.row.C.Denot g.row.G.Denot g.row.R.Denot). x.worker) w.self-inside-is
+      | in-Ok-One+in-Some w ↦ ap (λ (x : Inside g.row.K.Denot g.row.H.Denot g.row.C.Denot g.row.G.Denot g.row.R.Denot). x.worker) w.self-inside-is
+      | in-Ok-One+in-None w ↦ ap (λ (x : Inside g.row.K.Denot g.row.H.Denot g.row.C.Denot g.row.G.Denot g.row.R.Denot). x.worker) w.self-inside-is
       | in-Ok-One+in-None-2 w ↦ ap (λ (x : Inside g.row.K.Denot g.row.H.Denot g.row.C.Denot g.row.G.Denot g.row.R.Denot). x.worker) w.self-inside-is
       | in-Ok-EndDrop+then-is_over w ↦ ap (λ (x : Inside g.row.K.Denot g.row.H.Denot g.row.C.Denot g.row.G.Denot g.row.R.Denot). x.worker) w.self-inside-is
       | in-Ok-EndDrop+else-is_over w ↦ ap (λ (x : Inside g.row.K.Denot g.row.H.Denot g.row.C.Denot g.row.G.Denot g.row.R.Denot). x.worker) w.self-inside-is
@@ -201,10 +207,10 @@ returns g c =
       | in-Err w ↦ ap (λ (x : Inside g.row.K.Denot g.row.H.Denot g.row.C.Denot g.row.G.Denot g.row.R.Denot). x.worker) w.self-inside-is
     ] in
     let belongs : Belongs who request reply = elim c.match-made.branch [
-      | in-Ok-One+in-Some-key_of w ↦
+      | in-Ok-One+in-Some w ↦
           subst (Belongs who request) (sym w.reply-is)
           (subst (MadeBelongs who request) w.in-Ok-One.field-0-is w.in-Ok-One.ensures.belongs w.on_shard-reply.result w.on_shard-reply.ensures.belongs)
-      | in-Ok-One+in-None-key_of w ↦ search rules
+      | in-Ok-One+in-None w ↦ search rules
       | in-Ok-One+in-None-2 w ↦
           subst (Belongs who request) (sym w.reply-is)
           (subst (MadeBelongs who request) w.in-Ok-One.field-0-is w.in-Ok-One.ensures.belongs w.at_store.result w.at_store.ensures.belongs)
