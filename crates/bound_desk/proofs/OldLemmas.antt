@@ -1,6 +1,5 @@
 -- An old value comes along exactly where the key has an entry behind the step; what a refusal of a shard shows.
-use Rattle.std.proofs.Common.{ℕ, ℤ, ◌≡◌, ◌≢◌, Bool, true, false, List, ◌∷◌, Option, Some, None, Result, Ok, Err, IfOk, OnOk, is_some, refl, sym, ap, subst, ◌∙◌}
-use Rattle.std.proofs.lemmas.Bool.{false≢true}
+use Rattle.std.proofs.Common.{ℕ, ℤ, ◌≡◌, ◌≢◌, Bool, true, false, List, ◌∷◌, Result, Ok, Err, IfOk, OnOk, is_some, refl, sym, ap, subst, ◌∙◌}
 use Rattle.rows_model.specs.declared.keys.QKey.{QKey}
 use Rattle.rows_model.specs.declared.keys.Sid.{Sid}
 use Rattle.rows_model.specs.Placement.{shard_of}

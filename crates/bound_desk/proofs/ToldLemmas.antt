@@ -1,5 +1,5 @@
 -- What each call of a desk shows stays so, and holds with one more call.
-use Rattle.std.proofs.Common.{ℕ, ◌≡◌, ◌≢◌, ◌⊎◌, Bool, true, false, not, IsTrue, List, [], ◌∷◌, Option, Some, None, Result, Ok, Err, refl, sym, ap, subst, ◌∙◌, inl, inr}
+use Rattle.std.proofs.Common.{ℕ, ◌≡◌, Bool, true, false, IsTrue, List, [], ◌∷◌, Some, None, Ok, refl, sym, ap, subst, ◌∙◌, inl, inr}
 use Rattle.std.proofs.lemmas.Bool.{false≢true}
 use Rattle.std.proofs.lemmas.Option.{none-some}
 use Rattle.rows_model.specs.declared.keys.QKey.{QKey}
@@ -11,9 +11,8 @@ use Rattle.key_shard.specs.declared.steps.Step.{Step}
 use Rattle.key_shard.specs.Past.{Terms}
 use Rattle.key_shard.specs.Permit.{Permit}
 use Rattle.session_client.specs.Belongs.{Belongs}
-use Rattle.session_client.specs.Desks.{Exchange, Began, Asked, IsProper}
+use Rattle.session_client.specs.Desks.{Exchange, Began, Asked}
 use Rattle.session_client.specs.declared.replies.Reply.{Reply}
-use Rattle.session_client.specs.declared.replies.Reply.TheVariants as Reply
 use Rattle.session_client.specs.declared.replies.Wanted.{Wanted}
 use Rattle.session_client.specs.declared.replies.Wanted.TheVariants as wanted
 use Rattle.executor.specs.Requests.{key_of}
@@ -26,16 +25,13 @@ use Rattle.sql_keeper.specs.Faults.{has_failed}
 use Rattle.bound_hub.specs.Stores.{SeesFailure, ShowsEnd}
 use Rattle.desk_book.specs.Books.{Book, empty_book, first_book, noted_for, without_grant}
 use Rattle.desk_book.specs.Borne.{IsForm}
-use Rattle.desk_book.specs.Made.{made_in}
-use Rattle.desk_book.specs.declared.forms.Form.{Form}
 use Rattle.desk_book.specs.declared.forms.Form.TheVariants as form
-use Rattle.desk_book.specs.declared.made.Made.{Made}
 use Rattle.desk_book.specs.declared.made.Made.TheVariants as made
 use Rattle.bound_desk.specs.AtStore.{fault_of_keeper, ShowsAtStore}
 use Rattle.bound_desk.specs.Faults.{ShowsFault}
 use Rattle.bound_desk.specs.Safe.{drop_reply}
 use Rattle.bound_desk.specs.Shown.{ShowsDrop, ShowsReply}
-use Rattle.bound_desk.specs.Told.{book_after, IsMadeBy, IsMadeAs, IsEndDrop, IsAnswered, AreShown}
+use Rattle.bound_desk.specs.Told.{book_after, IsMadeAs, IsEndDrop, IsAnswered, AreShown}
 
 module _ (opening : Tables) (cap : ℕ) (terms : ℕ → Terms) (before : ℕ → List Step) (shards : ℕ) where
   -- before its first call a desk has an empty book, and nothing to show

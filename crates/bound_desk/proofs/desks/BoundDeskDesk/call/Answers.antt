@@ -3,14 +3,9 @@ use Rattle.std.proofs.lemmas.Bool.{false≢true}
 use Rattle.rows_model.specs.declared.keys.Sid.{Sid}
 use Rattle.expiry_sweeper.specs.Follows.{shards_of}
 use Rattle.session_client.specs.Desks.{Exchange, Asked, IsFirst}
-use Rattle.session_client.specs.declared.replies.Reply.{Reply}
-use Rattle.session_client.specs.declared.replies.Wanted.TheVariants as wanted
-use Rattle.log_word.specs.declared.seen.Seen.{Seen}
-use Rattle.desk_book.specs.Books.{Book, BookView}
+use Rattle.desk_book.specs.Books.{BookView}
 use Rattle.desk_book.specs.declared.made.Made.TheVariants as made
-use Rattle.bound_desk.specs.Faults.{ShowsFault}
-use Rattle.bound_desk.specs.Shown.{ShowsReply}
-use Rattle.bound_desk.specs.Told.{back_reply, book_after, AreShown, IsAnswered, IsMadeAs}
+use Rattle.bound_desk.specs.Told.{back_reply, AreShown, IsAnswered, IsMadeAs}
 use Rattle.log_word.specs.Events.{is_over}
 use Rattle.log_word.specs.Steps.{IsBeginning}
 use Rattle.log_word.proofs.ViewLemmas.{beginning_same, beginning_trans}
