@@ -130,7 +130,7 @@ always_served opening shards (call ∷ calls) seen run h = (h.0, h.1, always_ser
 -- rows that are told are there
 pub some_rows : {X : Type 0} (rows : Option X) → IsSome rows → is_none rows ≡ false
 some_rows (Some x) is = refl
-some_rows None is = absurd is
+some_rows None is = absurd (false≢true is)
 
 -- a get is made as it is asked for, in each form
 get_made : (found : Form) (who : Sid) (key : QKey) (floor : ℕ) → made_in found who (wanted.Get key floor) ≡ made.One (wanted.Get key floor)

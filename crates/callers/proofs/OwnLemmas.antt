@@ -44,7 +44,7 @@ use Rattle.desk_book.specs.declared.forms.Form.TheVariants as form
 use Rattle.desk_book.specs.declared.made.Made.{Made}
 use Rattle.desk_book.specs.declared.made.Made.TheVariants as made
 use Rattle.bound_desk.specs.Shown.{ShowsDrop}
-use Rattle.bound_desk.specs.Told.{AreShown, IsAnswered, IsEndDrop, IsMadeBy, IsShownAs}
+use Rattle.bound_desk.specs.Told.{AreShown, IsAnswered, IsEndDrop, IsMadeAs, IsMadeBy, IsShownAs}
 use Rattle.callers.specs.Desks.{releases, AnyCall, HoldsOwn, IsServedFresh, HandsIn, IsRunning, ToldCommit, ToldRelease}
 use Rattle.callers.proofs.DeskLemmas.{still_among}
 
@@ -92,8 +92,13 @@ module _ (opening : Tables) (cap : ℕ) (terms : ℕ → Terms) (before : ℕ �
   commit_shown who txn changes grants back number since book old new (Ok one) by_book shown =
       let As : Made → Type 0 = λ m. IsShownAs opening cap terms before shards who (wanted.Commit txn grants) (Reply.Committed number changes back) (Ok m) since book old new in
       ⊎_elim
-      (λ made_so. (subst As (by_book.2 ∙ made_so) shown).at_store)
-      (λ told. absurd (not_both number txn changes back grants (subst As (by_book.2 ∙ told) shown).0))
+      (λ made_so.
+      let made_as : IsMadeAs opening cap terms before shards who (wanted.Commit txn grants) (Reply.Committed number changes back) since book old new =
+      subst As (by_book.2 ∙ made_so) shown in
+      made_as.at_store)
+      (λ told.
+      let answered : (Reply.Committed number changes back ≡ Reply.NotCommitted causes.Ended txn grants) × (book ≡ since) = subst As (by_book.2 ∙ told) shown in
+      absurd (not_both number txn changes back grants answered.0))
       (commit_made by_book.0 who txn grants)
   commit_shown who txn changes grants back number since book old new (Err came) by_book shown = absurd by_book.0
 

@@ -23,7 +23,7 @@ pub fn desk_served<K: Keeper, H: BoundName, C: Clock, G: Gate, R: Wait>(
     desk: BoundDesk<'_, K, H, C, G, R>,
 ) -> Pass
     ensures word { result.word ≡ H.word }
-    ensures served { AreServed IsRunning H.opening H.word.shards desk.calls result.seen }
+    ensures served { AreServed IsRunning H.opening H.word.shards desk.entry.calls result.seen }
 {
     desk.into_pass()
 }
