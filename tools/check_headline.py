@@ -48,6 +48,9 @@ ROOTS = [
     ("crates/core_history/specs/Machine.antt", "terms_of"),
     ("crates/core_history/specs/Voids.antt", "VoidsAreInert"),
 ]
+# And where that of a server's hits begins: the word of the clause on the calls that a desk answered.
+SERVED = ("crates/callers/specs/Desks.antt", "AreServed")
+ROOTS.append(SERVED)
 # The way from the public call down to them: each is in the text of the one in front. (Not all that these use is followed.)
 RUNS = "crates/top_run/specs/Runs.antt"
 WAY = [
@@ -57,7 +60,10 @@ WAY = [
     ((RUNS, "IsWhole"), (RUNS, "IsBegun")),
     ((RUNS, "IsCutOff"), (RUNS, "IsBegun")),
     ((RUNS, "IsBegun"), (RUNS, "Keeps")),
-] + [((RUNS, "Keeps"), root) for root in ROOTS[:-1]]
+] + [((RUNS, "Keeps"), root) for root in ROOTS[:-2]] + [
+    (("crates/callers/src/desks.rt", "desk_served"), SERVED),
+    (("crates/callers/src/desks.rt", "desks_served"), SERVED),
+]
 # Where it isn't followed further: the page says why.
 STOPS = [
     ("crates/session_client/src/replies.rt", "Wanted"),

@@ -1,9 +1,11 @@
 pub mod BoundLemmas
 pub mod DropLemmas
 pub mod GrantNotes
+pub mod OldLemmas
 pub mod RaiseLemmas
 pub mod RecordLemmas
 pub mod SafeLemmas
 pub mod SweepLemmas
+pub mod ToldLemmas
 pub mod WriteLemmas
 pub mod WritingLemmas

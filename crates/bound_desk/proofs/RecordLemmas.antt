@@ -22,7 +22,6 @@ use Rattle.key_shard.specs.Permit.{Permit}
 use Rattle.key_shard.specs.Shards.{ShardView, past_of, refusal, Refuses}
 use Rattle.session_client.specs.declared.replies.Fault.TheVariants as fault
 use Rattle.session_client.specs.declared.replies.Reply.{Reply}
-use Rattle.session_client.specs.declared.replies.Reply.TheVariants as Reply
 use Rattle.session_client.specs.declared.replies.Wanted.{Wanted}
 use Rattle.session_client.specs.declared.replies.Wanted.TheVariants as wanted
 use Rattle.session_client.specs.Desks.{Exchange, Began, Asked, IsFirst}

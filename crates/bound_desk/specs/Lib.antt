@@ -1,8 +1,11 @@
+pub mod AtStore
 pub mod Bound
+pub mod Faults
 pub mod Grants
 pub mod Made
 pub mod Records
 pub mod Safe
 pub mod Shown
 pub mod Swept
+pub mod Told
 pub mod Writing

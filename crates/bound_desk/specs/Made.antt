@@ -12,7 +12,6 @@ use Rattle.key_shard.specs.Permit.{Permit}
 use Rattle.key_shard.specs.Replies.{ShowsRaise, ShowsRelease}
 use Rattle.key_shard.specs.Shards.{is_out, past_of, ShardView}
 use Rattle.session_client.specs.declared.replies.Reply.{Reply}
-use Rattle.session_client.specs.declared.replies.Reply.TheVariants as Reply
 use Rattle.session_client.specs.declared.replies.Wanted.{Wanted}
 use Rattle.session_client.specs.declared.replies.Wanted.TheVariants as wanted
 

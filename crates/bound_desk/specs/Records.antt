@@ -1,17 +1,20 @@
 -- What a desk was asked and what it replied, and what its pass has seen of that. Calls are listed with the latest first.
-use Rattle.std.specs.Prelude.{ℕ, ◌≡◌, ◌==◌, Bool, true, false, List, [], ◌∷◌, map, Option, Some, None}
+use Rattle.std.specs.Prelude.{ℕ, ◌≡◌, ◌==◌, Bool, true, false, List, [], ◌∷◌, map, Option, Some, None, Result}
 use Rattle.std.specs.List.{IsDistinct}
 use Rattle.std.specs.Option.{ForSome}
 use Rattle.rows_model.specs.declared.keys.QKey.{QKey}
 use Rattle.rows_model.specs.declared.keys.Sid.{Sid}
 use Rattle.rows_model.specs.Placement.{shard_of}
+use Rattle.key_shard.specs.declared.replies.Got.{Got}
 use Rattle.key_shard.specs.declared.replies.ShardFault.TheVariants as faults
 use Rattle.key_shard.specs.declared.steps.Step.{Step}
 use Rattle.key_shard.specs.Past.{Terms}
+use Rattle.session_client.specs.Belongs.{get_reply}
+use Rattle.session_client.specs.declared.replies.Fault.{Fault}
 use Rattle.session_client.specs.declared.replies.Fault.TheVariants as fault
 use Rattle.session_client.specs.declared.replies.Reply.{Reply}
-use Rattle.session_client.specs.declared.replies.Reply.TheVariants as Reply
 use Rattle.session_client.specs.declared.replies.Wanted.{Wanted}
+use Rattle.session_client.specs.declared.replies.Wanted.TheVariants as wanted
 use Rattle.session_client.specs.Desks.{Exchange, Began, Asked, IsFirst}
 use Rattle.log_word.specs.declared.events.Short.{Short}
 use Rattle.log_word.specs.declared.events.ShortKind.{ShortKind}
@@ -21,6 +24,7 @@ use Rattle.log_word.specs.declared.seen.Seen.{Seen}
 use Rattle.log_word.specs.Lists.{Among, steps_of}
 use Rattle.bound_hub.specs.Spent.{SeesSpent}
 use Rattle.desk_book.specs.Books.{Book, first_book}
+use Rattle.bound_desk.specs.declared.records.Look.{Look}
 
 -- The calls of which a record is made: the begin of each session, and each request with its reply.
 abbrev pub began_calls : List (Sid × Bool) → List Exchange
@@ -28,6 +32,10 @@ began_calls begins = map (λ (one : Sid × Bool). Began one.1 one.0) begins
 
 abbrev pub asked_calls : Reply → List (Sid × Wanted) → List Exchange
 asked_calls reply requests = map (λ (one : Sid × Wanted). Asked one.0 one.1 reply) requests
+
+-- So is each get with its answer.
+abbrev pub looked_calls : List (Look × Result Got Fault) → List Exchange
+looked_calls looks = map (λ (one : Look × Result Got Fault). Asked one.0.who (wanted.Get one.0.key one.0.floor) (get_reply one.1)) looks
 
 -- Whether a step of this kind names its session: one that follows a set doesn't.
 abbrev pub has_session : ShortKind → Bool

@@ -5,7 +5,6 @@ use Rattle.key_shard.specs.declared.replies.Raising.TheVariants as raising
 use Rattle.key_shard.specs.declared.replies.Rel.{Rel}
 use Rattle.session_client.specs.Belongs.{Belongs}
 use Rattle.session_client.specs.declared.replies.Reply.{Reply}
-use Rattle.session_client.specs.declared.replies.Reply.TheVariants as Reply
 use Rattle.session_client.specs.declared.replies.Wanted.{Wanted}
 use Rattle.session_client.specs.declared.replies.Wanted.TheVariants as wanted
 use Rattle.desk_book.specs.Books.{Book}

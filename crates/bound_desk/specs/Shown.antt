@@ -1,5 +1,6 @@
 -- What a reply to a request on a shard tells the desk that made it.
 use Rattle.std.specs.Prelude.{ℕ, ◌≡◌, ◌≢◌, pos, true, Bool, List, Some, None}
+use Rattle.std.specs.Option.{ForSome}
 use Rattle.rows_model.specs.declared.keys.QKey.{QKey}
 use Rattle.rows_model.specs.declared.keys.Sid.{Sid}
 use Rattle.rows_model.specs.Delta.{is_count}
@@ -11,17 +12,19 @@ use Rattle.key_shard.specs.declared.replies.Raising.{Raising}
 use Rattle.key_shard.specs.declared.replies.Raising.TheVariants as raising
 use Rattle.key_shard.specs.declared.replies.Rel.{Rel}
 use Rattle.key_shard.specs.declared.replies.Rel.TheVariants as rel
+use Rattle.key_shard.specs.declared.replies.Renewal.{Renewal}
+use Rattle.key_shard.specs.declared.replies.Renewal.TheVariants as renewal
 use Rattle.key_shard.specs.declared.steps.Step.{Step}
 use Rattle.key_shard.specs.Permit.{Permit}
 use Rattle.session_client.specs.declared.replies.Reply.{Reply}
-use Rattle.session_client.specs.declared.replies.Reply.TheVariants as Reply
 use Rattle.session_client.specs.declared.replies.Wanted.{Wanted}
 use Rattle.session_client.specs.declared.replies.Wanted.TheVariants as wanted
 use Rattle.log_word.specs.declared.events.Short.{Short}
 use Rattle.log_word.specs.declared.seen.Seen.{Seen}
-use Rattle.bound_hub.specs.Gets.{got_short, IsGotFresh, IsLastStep}
+use Rattle.bound_hub.specs.Gets.{got_short, IsGotFresh, IsGotHeld, IsLastStep}
 use Rattle.bound_hub.specs.Olds.{IsGrantHeld, IsRaiseHeld}
-use Rattle.bound_hub.specs.StepShorts.{quarantine_short, raise_short, release_short, replace_short, set_short}
+use Rattle.bound_hub.specs.StepShorts.{quarantine_short, raise_short, release_short, renew_short, replace_short, set_short}
+use Rattle.bound_desk.specs.Grants.{IsOldTold, IsRaiseTold}
 
 -- The step of this short form, after which the key has an entry or has none, is the last of the key's shard that is seen.
 abbrev pub IsLastOf : ℕ → QKey → (Bool → Short) → Seen → Type 0
@@ -49,19 +52,27 @@ abbrev pub ShowsKeep : ℕ → Permit → Rel → Seen → Type 0
 ShowsKeep shards grant answer seen =
     answer ≢ rel.Gone → IsLastOf shards grant.key (release_short grant.key grant.sid grant.token hows.Keep answer) seen
 
--- So is the step of a raise, of a grant that is to invalidate, unless it is Gone. An old value is held and right, unless it
--- is seen that the store has stopped telling its rows.
+-- So is the step of a raise, of a grant that is to invalidate, unless it is Gone. An old value comes along exactly where the
+-- key has an entry then. It is held and right, unless it is seen that the store has stopped telling its rows.
 abbrev pub ShowsRaising : Tables → (ℕ → List Step) → ℕ → Permit → Raising → Seen → Type 0
 ShowsRaising opening before shards grant answer seen =
     grant.mode ≡ Invalidate
     → (answer ≢ raising.Gone → IsLastOf shards grant.key (raise_short grant.key grant.sid grant.token answer) seen)
     × IsRaiseHeld opening (before (shard_of grant.key shards)) (shard_of grant.key shards) seen grant.key answer
+    × IsRaiseTold shards grant seen answer
 
--- What a reply tells: the request's own step is the last that is seen of its shard, a hit is fresh, and an old value is held
--- and right, both unless it is seen that the store has stopped telling its rows.
+-- So is the step of a renewal, unless it is Gone. For want of memory there is none.
+abbrev pub ShowsRenewing : ℕ → Permit → Renewal → Seen → Type 0
+ShowsRenewing shards grant answer seen =
+    answer ≢ renewal.Gone → IsLastOf shards grant.key (renew_short grant.key grant.sid grant.token answer) seen
+
+-- What a reply tells: the request's own step is the last that is seen of its shard. A hit is held by what is seen, and fresh,
+-- and an old value is held and right, all but the first unless it is seen that the store has stopped telling its rows. An old value comes along exactly where the key
+-- has an entry behind the quarantine. Of a fault `ShowsFault` tells.
 abbrev pub ShowsReply : Tables → (ℕ → List Step) → ℕ → Sid → Wanted → Reply → Seen → Type 0
 ShowsReply opening before shards who (wanted.Get key floor) (Reply.Got got) seen =
     IsLastOf shards key (got_short key who got) seen
+    × IsGotHeld opening (before (shard_of key shards)) (shard_of key shards) seen key got
     × IsGotFresh opening (before (shard_of key shards)) (shard_of key shards) seen key got
 ShowsReply opening before shards who (wanted.Set key token value stamp) (Reply.Set answer) seen =
     IsLastOf shards key (set_short key token stamp answer) seen
@@ -70,6 +81,7 @@ ShowsReply opening before shards who (wanted.QaReg key) (Reply.Quar answer) seen
 ShowsReply opening before shards who (wanted.QaRead key) (Reply.Quar answer) seen =
     IsLastOf shards key (quarantine_short key who Refresh (pos 0) answer) seen
     × IsGrantHeld opening (before (shard_of key shards)) (shard_of key shards) seen key answer
+    × IsOldTold shards key who (pos 0) Refresh seen answer
 ShowsReply opening before shards who (wanted.Delta key by) (Reply.Quar answer) seen =
     IsLastOf shards key (quarantine_short key who Delta by answer) seen
 ShowsReply opening before shards who (wanted.Dar grant) (Reply.Rel answer) seen = ShowsDrop shards grant answer seen
@@ -78,4 +90,6 @@ ShowsReply opening before shards who (wanted.Sar grant None stamp) (Reply.Rel an
 ShowsReply opening before shards who (wanted.Apply grant stamp) (Reply.Rel answer) seen = ShowsShift shards grant stamp answer seen
 ShowsReply opening before shards who (wanted.Abort grant) (Reply.Rel answer) seen = ShowsKeep shards grant answer seen
 ShowsReply opening before shards who (wanted.Raise grant) (Reply.Raise answer) seen = ShowsRaising opening before shards grant answer seen
+ShowsReply opening before shards who (wanted.Renew grant) (Reply.Renew back answer) seen =
+    ForSome answer (λ found. ShowsRenewing shards grant found seen)
 ShowsReply opening before shards who other reply seen = Unit {0}

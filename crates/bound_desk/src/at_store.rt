@@ -4,8 +4,11 @@ ghost use Rattle.session_client.specs.Belongs.{Belongs};
 ghost use Rattle.session_client.specs.declared.replies.Wanted.TheVariants as wanted;
 ghost use Rattle.executor.specs.OnStore.{IsAtStore};
 ghost use Rattle.log_word.specs.Steps.{IsBeginning};
+ghost use Rattle.desk_book.specs.Books.{Book};
 ghost use Rattle.desk_book.specs.Borne.{IsPresent};
+ghost use Rattle.bound_desk.specs.AtStore.{fault_of_keeper, ShowsAtStore};
 ghost use Rattle.bound_desk.specs.Safe.{IsSafe};
+ghost use Rattle.bound_desk.specs.Told.{book_after};
 
 use crate::bound_books::BoundBook;
 use bound_hub::{BoundName, BoundStore};
@@ -27,12 +30,15 @@ impl<H: BoundName> BoundBook<H> {
         requires { word.now ≡ H.word }
         ensures belongs { Belongs who (wanted.Ask key) result }
         ensures seen { IsBeginning self.old.seen self.new.seen }
+        ensures shows { ShowsAtStore H.opening H.cap self.old.book.book who
+            (wanted.Ask key) result self.old.seen self.new.seen }
+        ensures book { self.new.book.book
+            ≡ book_after who (wanted.Ask key) result self.old.book.book }
     {
         match self.ask(word, store, who, &key) {
             Ok(answer) => Reply::Answer { answer },
-            Err(KeepFault::Failed) => Reply::Fault { fault: Fault::Keep },
-            Err(KeepFault::Memory) => Reply::Fault {
-                fault: Fault::Memory,
+            Err(fault) => Reply::Fault {
+                fault: of_keeper(fault),
             },
         }
     }
@@ -48,6 +54,9 @@ impl<H: BoundName> BoundBook<H> {
         requires { word.now ≡ H.word }
         ensures belongs { (who : Sid) → Belongs who (wanted.Staged key txn) result }
         ensures seen { IsBeginning self.old.seen self.new.seen }
+        ensures shows { (book : Book) (who : Sid) → ShowsAtStore H.opening H.cap book who
+            (wanted.Staged key txn) result self.old.seen self.new.seen }
+        ensures book { self.new.book ≡ self.old.book }
     {
         match self.ask_staged(word, store, &txn, &key) {
             Ok(value) => Reply::Staged { value, txn },
@@ -70,6 +79,10 @@ impl<H: BoundName> BoundBook<H> {
         requires present { IsPresent self.old.book.book who }
         ensures belongs { Belongs who (wanted.Commit txn grants) result }
         ensures seen { IsBeginning self.old.seen self.new.seen }
+        ensures shows { ShowsAtStore H.opening H.cap self.old.book.book who
+            (wanted.Commit txn grants) result self.old.seen self.new.seen }
+        ensures book { self.new.book.book
+            ≡ book_after who (wanted.Commit txn grants) result self.old.book.book }
     {
         let (held, apart) = match self.set_apart(alloc, grants) {
             Ok(parts) => parts,
@@ -94,7 +107,8 @@ impl<H: BoundName> BoundBook<H> {
     }
 
     /// Makes a session's request, which is safe by the book, at the store that is lent. A commit stands on
-    /// those of its grants alone that the book holds, and all of them come back.
+    /// those of its grants alone that the book holds, and all of them come back. What the reply tells is shown
+    /// by what the desk has seen then, and a failed keeper is told only where one more failed call is seen.
     pub fn at_store<K: Keeper>(
         &mut self,
         word: &LogWord,
@@ -108,6 +122,9 @@ impl<H: BoundName> BoundBook<H> {
         requires safe { IsSafe self.old.book.book who request }
         ensures belongs { Belongs who request result }
         ensures seen { IsBeginning self.old.seen self.new.seen }
+        ensures shows { ShowsAtStore H.opening H.cap self.old.book.book who request result
+            self.old.seen self.new.seen }
+        ensures book { self.new.book.book ≡ book_after who request result self.old.book.book }
     {
         match request {
             Wanted::Ask { key } => self.reply_to_ask(word, store, who, key),
@@ -131,5 +148,15 @@ impl<H: BoundName> BoundBook<H> {
             | Wanted::Renew { .. }
             | Wanted::Nothing => unreachable!(),
         }
+    }
+}
+
+/// What a session is told of a question that the keeper didn't answer.
+fn of_keeper(fault: KeepFault) -> Fault
+    ensures { result ≡ fault_of_keeper fault }
+{
+    match fault {
+        KeepFault::Failed => Fault::Keep,
+        KeepFault::Memory => Fault::Memory,
     }
 }

@@ -1,8 +1,8 @@
 //! Commits for a desk: the book notes them.
-ghost use Rattle.std.specs.Prelude.{◌≡◌, ◌⊎◌, All, IfErr, IfOk, OnErr};
+ghost use Rattle.std.specs.Prelude.{◌≡◌, ◌⊎◌, All, IfErr, IfOk, OnErr, filter};
 ghost use Rattle.sql_keeper.specs.Faults.{is_failure};
 ghost use Rattle.log_word.specs.Steps.{IsBeginning};
-ghost use Rattle.desk_book.specs.Apart.{put_back, AreLeft};
+ghost use Rattle.desk_book.specs.Apart.{is_held, put_back, AreLeft};
 ghost use Rattle.desk_book.specs.Books.{noted_for, with_commit};
 ghost use Rattle.desk_book.specs.Borne.{Holds, IsPresent};
 ghost use Rattle.bound_hub.specs.Stores.{SeesFailure, ShowsCommit, ShowsRefusal};
@@ -22,6 +22,8 @@ impl<H: BoundName> BoundBook<H> {
     /// as they were.
     pub fn set_apart(&self, alloc: Global, grants: Grants) -> Result<(Grants, Apart), Grants>
         ensures held { IfOk result (λ parts. All (Holds self.now.book.book) parts.0.items) }
+        ensures those { IfOk result (λ parts.
+            parts.0.items ≡ filter (is_held self.now.book.book) grants.items) }
         ensures room { IfOk result (λ parts. parts.0.room ≡ grants.room) }
         ensures back { IfOk result (λ parts. put_back parts.1 parts.0.items ≡ grants.items) }
         ensures left { IfOk result (λ parts. AreLeft parts.1 parts.0) }

@@ -1,18 +1,15 @@
 //! The desk of a worker over a bound hub: each call takes the lock of the key's shard or that of the
 //! store, makes one request there with the desk's book, and lets go.
-ghost use Rattle.std.specs.Prelude.{◌≡◌, ◌∷◌, []};
-ghost use Rattle.session_client.specs.Belongs.{Belongs};
-ghost use Rattle.session_client.specs.Desks.{Asked};
-ghost use Rattle.session_client.specs.declared.replies.Wanted.TheVariants as wanted;
-ghost use Rattle.log_word.specs.Steps.{IsBeginning};
+ghost use Rattle.std.specs.Prelude.{◌≡◌, []};
+ghost use Rattle.session_client.specs.Belongs.{Belongs, get_reply};
 ghost use Rattle.desk_book.specs.Books.{empty_book};
 ghost use Rattle.desk_book.specs.Borne.{IsPut};
 ghost use Rattle.bound_desk.specs.Records.{IsRecordSeen};
 ghost use Rattle.bound_desk.specs.Safe.{drop_reply};
-ghost use Rattle.bound_desk.specs.Shown.{ShowsReply};
+ghost use Rattle.bound_desk.specs.Told.{back_reply, AreShown};
 
 use crate::bound_books::BoundBook;
-use crate::records::Record;
+use crate::records::{Look, Record};
 use crate::requests::is_raise;
 use crate::sweeps::{BoundSweep, drop_lapsed};
 use crate::turns::{is_timed, turn_to_due};
@@ -22,10 +19,10 @@ use executor::key_of;
 use expiry_sweeper::{SweepReply, SweepWanted, Sweeper};
 use http_server::Log;
 use iq_outside::{Clock, Gate, Point};
-use key_shard::{Raising, Rel};
+use key_shard::{Got, Raising, Rel};
 use log_word::Pass;
 use rows_model::{Memory, QKey, Sid};
-use session_client::{Desk, Reply, Wanted};
+use session_client::{Desk, Fault, Reply, Wanted};
 use sql_keeper::Keeper;
 use std::alloc::Global;
 use std::marker::Model;
@@ -36,7 +33,8 @@ use std::sync::Wait;
 /// desk answered.
 ///
 /// The pass has seen the Begin of each session that the desk began. A session's first get or quarantine has
-/// left a step that names it, unless memory ran out or no token was left.
+/// left a step that names it, unless memory ran out or no token was left. Each call was made of its request
+/// as the book said then, and its reply is shown by what the pass had seen when it was told.
 ///
 /// A request that the book bears out is made as it is asked for, and any other in its safe form. A release
 /// that keeps the value is Gone where the desk hasn't seen that the grant's session was ended without a
@@ -62,6 +60,7 @@ impl<'a, K: Keeper, H: BoundName, C: Clock, G: Gate, R: Wait> Model
     ghost use Rattle.expiry_sweeper.specs.Follows.{shards_of};
     ghost use Rattle.bound_desk.specs.Bound.{BoundDeskView};
     ghost use Rattle.bound_desk.specs.Records.{IsFreshBook, IsRecordSeen};
+    ghost use Rattle.bound_desk.specs.Told.{AreShown};
 
     ghost Value = { BoundDeskView };
 
@@ -74,7 +73,9 @@ impl<'a, K: Keeper, H: BoundName, C: Clock, G: Gate, R: Wait> Model
 
     ghost invariant = { λ desk. (shards_of desk.sweeper ≡ desk.hub.now)
         × IsRecordSeen H.terms H.before H.word.shards desk.worker desk.calls desk.notes.seen
-        × IsFreshBook desk.calls desk.notes.book.book };
+        × IsFreshBook desk.calls desk.notes.book.book
+        × AreShown H.opening H.cap H.terms H.before H.word.shards desk.calls desk.notes.book.book
+        desk.notes.seen };
 }
 
 impl<'a, K: Keeper, H: BoundName, C: Clock, G: Gate, R: Wait> BoundDesk<'a, K, H, C, G, R> {
@@ -111,40 +112,16 @@ impl<'a, K: Keeper, H: BoundName, C: Clock, G: Gate, R: Wait> BoundDesk<'a, K, H
         }
     }
 
-    /// Gets a key for a session. The get's own step is the last of that shard that the desk has seen then.
-    /// A hit is fresh against what the desk has seen then, unless that tells that the store has stopped
-    /// telling its rows, and its stamp is at least the floor.
-    pub fn get(&mut self, who: Sid, key: QKey, floor: u64) -> Reply
-        ensures belongs { Belongs who (wanted.Get key floor) result }
-        ensures seen { IsBeginning self.old.seen self.new.seen }
-        ensures shows { ShowsReply H.opening H.before H.word.shards who (wanted.Get key floor)
-            result self.new.seen }
-        ensures recorded { self.new.calls
-            ≡ Asked who (wanted.Get key floor) result ∷ self.old.calls }
-    {
-        let request = Wanted::Get { key, floor };
-        let asked = Log::new().and(&who, &request);
-        request.let_go();
-        let word = self.hub.word();
-        let mut shard = self.hub.lock_of(self.rt, &key);
-        self.gate
-            .at(self.worker, Point::Inside { shard: shard.no() });
-        let now = self.clock.now();
-        let reply = self
-            .notes
-            .reply_to_get(word, &mut *shard, who, key, floor, now);
-        self.calls = self.calls.asked(&asked, &reply);
-        reply
-    }
-
     /// The pass of the desk's word, which has seen what the desk has: of each session that the desk began its
-    /// Begin, and of its first request a step that names it. The book goes, and so do the sweeper and what it
-    /// has seen.
+    /// Begin, and of its first request a step that names it. Each call shows what it answered by what had been
+    /// seen then, which grows from call to call. The book goes, and so do the sweeper and what it has seen.
     pub fn into_pass(self) -> Pass
         ensures word { result.word ≡ H.word }
         ensures seen { result.seen ≡ self.entry.seen }
         ensures recorded { IsRecordSeen H.terms H.before H.word.shards self.entry.worker
             self.entry.calls result.seen }
+        ensures shown { AreShown H.opening H.cap H.terms H.before H.word.shards
+            self.entry.calls self.entry.book.book result.seen }
     {
         let BoundDesk {
             rt: _,
@@ -181,33 +158,38 @@ impl<'a, K: Keeper, H: BoundName, C: Clock, G: Gate, R: Wait> Desk
         Ok(sid)
     }
 
-    /// Makes a session's request as its book bears it out, and else in its safe form. A get is tried as a hit
-    /// first, for which no clock is read. Where a reader is told that a quarantine stands, and one is due on
-    /// that shard, the worker's sweeper looks there next.
-    fn call(&mut self, who: Sid, request: Wanted) -> Reply {
-        let asked = Log::new().and(&who, &request);
+    /// Looks a key up for a session: as a hit first, for which no clock is read. Where a reader is told that a
+    /// quarantine stands, and one is due on that shard, the worker's sweeper looks there next.
+    fn get(&mut self, who: Sid, key: QKey, floor: u64) -> Result<Got, Fault> {
         let word = self.hub.word();
+        let mut shard = self.hub.lock_of(self.rt, &key);
+        let place = shard.no();
+        self.gate.at(self.worker, Point::Inside { shard: place });
+        let answer = match self.notes.reply_to_hit(word, &mut *shard, who, key, floor) {
+            Some(got) => Ok(got),
+            None => {
+                let now = self.clock.now();
+                let answer = self
+                    .notes
+                    .reply_to_get(word, &mut *shard, who, key, floor, now);
+                turn_to_due(&mut self.sweeper, place, &answer, shard.next_due(), now);
+                self.hub.note_due(place, shard.next_look());
+                answer
+            }
+        };
+        self.calls = self.calls.looked(&Look { who, key, floor }, &answer);
+        answer
+    }
+
+    /// Makes a session's request as its book bears it out, and else in its safe form. A get is made by `get`.
+    fn call(&mut self, who: Sid, request: Wanted) -> Reply {
         if let Wanted::Get { key, floor } = &request {
             let (key, floor) = (*key, *floor);
             request.let_go();
-            let mut shard = self.hub.lock_of(self.rt, &key);
-            let place = shard.no();
-            self.gate.at(self.worker, Point::Inside { shard: place });
-            let reply = match self.notes.reply_to_hit(word, &mut *shard, who, key, floor) {
-                Some(reply) => reply,
-                None => {
-                    let now = self.clock.now();
-                    let reply = self
-                        .notes
-                        .reply_to_get(word, &mut *shard, who, key, floor, now);
-                    turn_to_due(&mut self.sweeper, place, &reply, shard.next_due(), now);
-                    self.hub.note_due(place, shard.next_look());
-                    reply
-                }
-            };
-            self.calls = self.calls.asked(&asked, &reply);
-            return reply;
+            return told(self.get(who, key, floor));
         }
+        let asked = Log::new().and(&who, &request);
+        let word = self.hub.word();
         let raises = is_raise(&request);
         let reply = match self.notes.made(who, request) {
             Ok(Made::One { request }) => match key_of(&request) {
@@ -303,10 +285,21 @@ impl<'a, K: Keeper, H: BoundName, C: Clock, G: Gate, R: Wait> Desk
     }
 }
 
+/// The reply to a get that was answered so.
+fn told(answer: Result<Got, Fault>) -> Reply
+    ensures { result ≡ get_reply answer }
+{
+    match answer {
+        Ok(got) => Reply::Got { got },
+        Err(fault) => Reply::Fault { fault },
+    }
+}
+
 /// The reply to a release with a new value for which there was no memory: the grant comes back.
 fn back(request: Wanted) -> Reply
     requires { IsPut request }
-    ensures { (who : Sid) → Belongs who request result }
+    ensures belongs { (who : Sid) → Belongs who request result }
+    ensures reply { result ≡ back_reply request }
 {
     match request {
         Wanted::Sar {

@@ -1,7 +1,8 @@
 //! A session is ended before a grant of its is dropped that the book doesn't bear out.
-ghost use Rattle.std.specs.Prelude.{◌≡◌, true, IsTrue};
+ghost use Rattle.std.specs.Prelude.{◌≡◌, Bool, true, IsTrue};
 ghost use Rattle.log_word.specs.Events.{is_over};
 ghost use Rattle.log_word.specs.Steps.{IsBeginning};
+ghost use Rattle.bound_hub.specs.Stores.{ShowsEnd};
 
 use crate::bound_books::BoundBook;
 use bound_hub::{BoundName, BoundStore};
@@ -21,6 +22,8 @@ impl<H: BoundName> BoundBook<H> {
     ) -> bool
         requires { word.now ≡ H.word }
         ensures seen { IsBeginning self.old.seen self.new.seen }
+        ensures shows { (was : Bool) × ShowsEnd who self.new.seen was
+            × (IsTrue was → IsTrue result) }
         ensures over { IsTrue result → is_over who.number self.new.seen.events ≡ true }
         ensures book { self.new.book ≡ self.old.book }
     {

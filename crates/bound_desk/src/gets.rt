@@ -7,7 +7,7 @@ ghost use Rattle.key_shard.specs.declared.replies.ShardFault.TheVariants as faul
 ghost use Rattle.session_client.specs.Belongs.{IsGotOf};
 ghost use Rattle.log_word.specs.Steps.{IsBeginning};
 ghost use Rattle.desk_book.specs.Books.{noted_for};
-ghost use Rattle.bound_hub.specs.Gets.{got_short, IsGotFresh, IsLastStep};
+ghost use Rattle.bound_hub.specs.Gets.{got_short, IsGotFresh, IsGotHeld, IsLastStep};
 ghost use Rattle.bound_hub.specs.Spent.{HasNoToken, SeesSpent};
 ghost use Rattle.bound_desk.specs.Bound.{with_got};
 
@@ -38,6 +38,8 @@ impl<H: BoundName> BoundBook<H> {
         ensures seen { IsBeginning self.old.seen self.new.seen }
         ensures last { IfOk result (λ got. (has : Bool)
             × IsLastStep (shard_of key H.word.shards) (got_short key who got has) self.new.seen) }
+        ensures held { IfOk result (λ got. let no = shard_of key H.word.shards in
+            IsGotHeld H.opening (H.before no) no self.new.seen key got) }
         ensures fresh { IfOk result (λ got. let no = shard_of key H.word.shards in
             IsGotFresh H.opening (H.before no) no self.new.seen key got) }
         ensures floor { IfOk result (IsGotOf floor) }
@@ -76,6 +78,8 @@ impl<H: BoundName> BoundBook<H> {
         ensures seen { IsBeginning self.old.seen self.new.seen }
         ensures last { IfSome result (λ got. (has : Bool)
             × IsLastStep (shard_of key H.word.shards) (got_short key who got has) self.new.seen) }
+        ensures held { IfSome result (λ got. let no = shard_of key H.word.shards in
+            IsGotHeld H.opening (H.before no) no self.new.seen key got) }
         ensures fresh { IfSome result (λ got. let no = shard_of key H.word.shards in
             IsGotFresh H.opening (H.before no) no self.new.seen key got) }
         ensures floor { IfSome result (IsGotOf floor) }
@@ -101,6 +105,8 @@ impl<H: BoundName> BoundBook<H> {
         ensures seen { IsBeginning self.old.seen self.new.seen }
         ensures last { IfOk result (λ got. (has : Bool)
             × IsLastStep (shard_of key H.word.shards) (got_short key who got has) self.new.seen) }
+        ensures held { IfOk result (λ got. let no = shard_of key H.word.shards in
+            IsGotHeld H.opening (H.before no) no self.new.seen key got) }
         ensures fresh { IfOk result (λ got. let no = shard_of key H.word.shards in
             IsGotFresh H.opening (H.before no) no self.new.seen key got) }
         ensures floor { IfOk result (IsGotOf floor) }
@@ -125,8 +131,8 @@ impl<H: BoundName> BoundBook<H> {
         shard.tell(word, &mut self.pass);
     }
 
-    // Notes what a get was answered, where its step is the last that was seen of the key's shard.
-    fn note_got(&mut self, who: Sid, key: QKey, got: &Got)
+    /// Notes what a get was answered, where its step is the last that was seen of the key's shard.
+    pub(crate) fn note_got(&mut self, who: Sid, key: QKey, got: &Got)
         requires { (has : Bool) × IsLastStep (shard_of key H.word.shards)
             (got_short key who got.now has) self.old.seen }
         ensures seen { self.new.seen ≡ self.old.seen }

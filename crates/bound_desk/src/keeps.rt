@@ -18,6 +18,7 @@ ghost use Rattle.bound_hub.specs.StepShorts.{release_short};
 ghost use Rattle.bound_desk.specs.Bound.{quit_after};
 ghost use Rattle.bound_desk.specs.Made.{IsMade};
 ghost use Rattle.bound_desk.specs.Shown.{ShowsReply};
+ghost use Rattle.bound_desk.specs.Told.{book_after};
 
 use crate::bound_books::BoundBook;
 use bound_hub::{BoundName, BoundShard, BoundStore};
@@ -92,7 +93,7 @@ impl<H: BoundName> BoundBook<H> {
 
     /// A release that keeps the value, as `BoundBook::keep_value`, with its reply. It is Gone where the
     /// desk hasn't seen that the grant's session was ended without a commit, and then its quarantine stands
-    /// until it is swept.
+    /// until it is swept. The grant is noted as spent.
     pub(crate) fn reply_to_abort(
         &mut self,
         word: &LogWord,
@@ -106,9 +107,12 @@ impl<H: BoundName> BoundBook<H> {
         ensures seen { IsBeginning self.old.seen self.new.seen }
         ensures shows { ShowsReply H.opening H.before H.word.shards who (wanted.Abort grant)
             result self.new.seen }
+        ensures book { self.new.book.book
+            ≡ book_after who (wanted.Abort grant) result self.old.book.book }
         ensures made { IsMade self.old.quit shard.old.shard (wanted.Abort grant) result }
     {
         if !self.has_quit(grant.sid()) {
+            self.note_spent(who, &Ticket::of(&grant));
             grant.let_go();
             return Reply::Rel { answer: Rel::Gone };
         }

@@ -16,7 +16,7 @@ ghost use Rattle.bound_hub.specs.Spent.{HasNoToken, SeesSpent};
 ghost use Rattle.bound_hub.specs.Stores.{IsGrantSeen};
 ghost use Rattle.bound_hub.specs.StepShorts.{quarantine_short};
 ghost use Rattle.bound_hub.specs.Shorts.{is_alone};
-ghost use Rattle.bound_desk.specs.Grants.{IsGrantFor, with_granted};
+ghost use Rattle.bound_desk.specs.Grants.{IsGrantFor, IsOldTold, with_granted};
 ghost use Rattle.bound_desk.specs.Writing.{IsGrantAlone, StoodAlone};
 
 use crate::bound_books::BoundBook;
@@ -57,6 +57,7 @@ impl<H: BoundName> BoundBook<H> {
             self.new.seen) }
         ensures old { IfOk result (λ answer. let no = shard_of key H.word.shards in
             IsGrantHeld H.opening (H.before no) no self.new.seen key answer) }
+        ensures told { IfOk result (IsOldTold H.word.shards key who by mode self.new.seen) }
         ensures book { IfOk result (λ answer.
             self.new.book.book ≡ noted_for who (with_granted by answer) self.old.book.book) }
         ensures belongs { IfOk result (IsQuarantineOf who key mode) }
@@ -103,6 +104,7 @@ impl<H: BoundName> BoundBook<H> {
             self.new.seen) }
         ensures old { IfOk result (λ answer. let no = shard_of key H.word.shards in
             IsGrantHeld H.opening (H.before no) no self.new.seen key answer) }
+        ensures told { IfOk result (IsOldTold H.word.shards key who by mode self.new.seen) }
         ensures grant { IfOk result (IsGrantFor H.word.shards self.new.seen
             (old_value mode (entry key (past_of shard.old.shard)))) }
         ensures alone { IfOk result

@@ -16,9 +16,10 @@ ghost use Rattle.desk_book.specs.Borne.{IsBorne};
 ghost use Rattle.bound_hub.specs.Gets.{IsLastStep};
 ghost use Rattle.bound_hub.specs.Olds.{IsRaiseHeld};
 ghost use Rattle.bound_hub.specs.StepShorts.{raise_short};
-ghost use Rattle.bound_desk.specs.Grants.{IsRaiseFor, with_raising};
+ghost use Rattle.bound_desk.specs.Grants.{IsRaiseFor, IsRaiseTold, with_raising};
 ghost use Rattle.bound_desk.specs.Made.{IsMade};
 ghost use Rattle.bound_desk.specs.Shown.{ShowsReply};
+ghost use Rattle.bound_desk.specs.Told.{book_after};
 ghost use Rattle.bound_desk.specs.Writing.{IsRaiseAlone, StoodAlone};
 
 use crate::bound_books::BoundBook;
@@ -57,6 +58,7 @@ impl<H: BoundName> BoundBook<H> {
             (raise_short grant.key grant.sid grant.token answer has) self.new.seen) }
         ensures old { IfOk result (λ answer. let no = shard_of grant.key H.word.shards in
             IsRaiseHeld H.opening (H.before no) no self.new.seen grant.key answer) }
+        ensures told { IfOk result (IsRaiseTold H.word.shards grant self.new.seen) }
         ensures book { IfOk result (λ answer.
             self.new.book.book ≡ noted_for who (with_raising grant answer) self.old.book.book) }
         ensures out { let at = shard.old.shard in IsTrue (is_out at grant) → OnOk result
@@ -102,6 +104,7 @@ impl<H: BoundName> BoundBook<H> {
             (raise_short grant.key grant.sid grant.token answer has) self.new.seen) }
         ensures old { IfOk result (λ answer. let no = shard_of grant.key H.word.shards in
             IsRaiseHeld H.opening (H.before no) no self.new.seen grant.key answer) }
+        ensures told { IfOk result (IsRaiseTold H.word.shards grant self.new.seen) }
         ensures brings { IfOk result
             (IsRaiseFor grant (entry grant.key (past_of shard.old.shard))) }
         ensures alone { IfOk result
@@ -133,8 +136,8 @@ impl<H: BoundName> BoundBook<H> {
         self.book.note_raised(who, ticket, old);
     }
 
-    // Notes a grant that is spent.
-    fn note_spent(&mut self, who: Sid, ticket: &Ticket)
+    /// Notes a grant that is spent.
+    pub(crate) fn note_spent(&mut self, who: Sid, ticket: &Ticket)
         ensures seen { self.new.seen ≡ self.old.seen }
         ensures book { self.new.book.book
             ≡ noted_for who (without_grant ticket.now) self.old.book.book }
@@ -158,6 +161,8 @@ impl<H: BoundName> BoundBook<H> {
         ensures seen { IsBeginning self.old.seen self.new.seen }
         ensures shows { ShowsReply H.opening H.before H.word.shards who (wanted.Raise grant)
             result self.new.seen }
+        ensures book { self.new.book.book
+            ≡ book_after who (wanted.Raise grant) result self.old.book.book }
         ensures made { IsMade self.old.quit shard.old.shard (wanted.Raise grant) result }
     {
         match grant.mode() {

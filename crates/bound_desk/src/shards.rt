@@ -2,7 +2,7 @@
 ghost use Rattle.std.specs.Prelude.{◌≡◌, ◌≢◌, ℕ, Bool, IfNone, IfSome};
 ghost use Rattle.rows_model.specs.Placement.{shard_of};
 ghost use Rattle.key_shard.specs.Answers.{IsAtHome};
-ghost use Rattle.session_client.specs.Belongs.{Belongs};
+ghost use Rattle.session_client.specs.Belongs.{Belongs, get_reply};
 ghost use Rattle.session_client.specs.Desks.{IsFirst};
 ghost use Rattle.session_client.specs.declared.replies.Reply.TheVariants as Reply;
 ghost use Rattle.session_client.specs.declared.replies.Wanted.TheVariants as wanted;
@@ -13,18 +13,20 @@ ghost use Rattle.desk_book.specs.Borne.{MayQuarantine};
 ghost use Rattle.bound_desk.specs.Safe.{IsSafe};
 ghost use Rattle.bound_desk.specs.Made.{IsMade};
 ghost use Rattle.bound_desk.specs.Records.{ShowsFirst};
+ghost use Rattle.bound_desk.specs.Faults.{ShowsFault};
 ghost use Rattle.bound_desk.specs.Shown.{ShowsReply};
+ghost use Rattle.bound_desk.specs.Told.{book_after};
 
 use crate::bound_books::BoundBook;
 use bound_hub::{BoundName, BoundShard};
-use key_shard::ShardFault;
+use key_shard::{Got, ShardFault};
 use lease_table::Mode;
 use log_word::LogWord;
 use rows_model::{QKey, Sid, Value};
 use session_client::{Fault, Reply, Wanted};
 
 impl<H: BoundName> BoundBook<H> {
-    /// A get, as `BoundBook::get`, with its reply.
+    /// A get, as `BoundBook::get`, with what its reply is told by.
     pub(crate) fn reply_to_get(
         &mut self,
         word: &LogWord,
@@ -33,23 +35,28 @@ impl<H: BoundName> BoundBook<H> {
         key: QKey,
         floor: u64,
         now: u64,
-    ) -> Reply
+    ) -> Result<Got, Fault>
         requires word { word.now ≡ H.word }
         requires place { shard.old.shard.terms.no ≡ shard_of key H.word.shards }
         requires home { IsAtHome shard.old.shard.terms key }
-        ensures belongs { Belongs who (wanted.Get key floor) result }
+        ensures belongs { Belongs who (wanted.Get key floor) (get_reply result) }
         ensures seen { IsBeginning self.old.seen self.new.seen }
         ensures shows { ShowsReply H.opening H.before H.word.shards who (wanted.Get key floor)
-            result self.new.seen }
-        ensures first { ShowsFirst H.terms H.before H.word.shards who result self.new.seen }
+            (get_reply result) self.new.seen }
+        ensures fault { ShowsFault H.terms H.before H.word.shards (wanted.Get key floor)
+            (get_reply result) self.new.seen }
+        ensures book { self.new.book.book
+            ≡ book_after who (wanted.Get key floor) (get_reply result) self.old.book.book }
+        ensures first { ShowsFirst H.terms H.before H.word.shards who (get_reply result)
+            self.new.seen }
     {
         match self.get(word, shard, key, who, floor, now) {
-            Ok(got) => Reply::Got { got },
-            Err(fault) => refused(fault),
+            Ok(got) => Ok(got),
+            Err(fault) => Err(told_of(fault)),
         }
     }
 
-    /// A get that is a hit, as `BoundBook::get_hit`, with its reply.
+    /// A get that is a hit, as `BoundBook::get_hit`. What it is answered is noted as that of a get.
     pub(crate) fn reply_to_hit(
         &mut self,
         word: &LogWord,
@@ -57,18 +64,27 @@ impl<H: BoundName> BoundBook<H> {
         who: Sid,
         key: QKey,
         floor: u64,
-    ) -> Option<Reply>
+    ) -> Option<Got>
         requires word { word.now ≡ H.word }
         requires place { shard.old.shard.terms.no ≡ shard_of key H.word.shards }
         requires home { IsAtHome shard.old.shard.terms key }
-        ensures belongs { IfSome result (Belongs who (wanted.Get key floor)) }
+        ensures belongs { IfSome result (λ got.
+            Belongs who (wanted.Get key floor) (Reply.Got got)) }
         ensures seen { IsBeginning self.old.seen self.new.seen }
-        ensures first { IfSome result (λ reply.
-            ShowsFirst H.terms H.before H.word.shards who reply self.new.seen) }
+        ensures shows { IfSome result (λ got. ShowsReply H.opening H.before H.word.shards who
+            (wanted.Get key floor) (Reply.Got got) self.new.seen) }
+        ensures book { IfSome result (λ got. self.new.book.book
+            ≡ book_after who (wanted.Get key floor) (Reply.Got got) self.old.book.book) }
+        ensures none { IfNone result (self.new.book ≡ self.old.book) }
+        ensures first { IfSome result (λ got.
+            ShowsFirst H.terms H.before H.word.shards who (Reply.Got got) self.new.seen) }
         ensures same { IfNone result (shard.new.shard ≡ shard.old.shard) }
     {
         match self.get_hit(word, shard, key, who, floor) {
-            Some(got) => Some(Reply::Got { got }),
+            Some(got) => {
+                self.note_got(who, key, &got);
+                Some(got)
+            }
             None => None,
         }
     }
@@ -90,6 +106,8 @@ impl<H: BoundName> BoundBook<H> {
         ensures seen { IsBeginning self.old.seen self.new.seen }
         ensures shows { ShowsReply H.opening H.before H.word.shards who (wanted.QaReg key)
             result self.new.seen }
+        ensures fault { ShowsFault H.terms H.before H.word.shards (wanted.QaReg key) result self.new.seen }
+        ensures book { self.new.book.book ≡ book_after who (wanted.QaReg key) result self.old.book.book }
         ensures first { ShowsFirst H.terms H.before H.word.shards who result self.new.seen }
     {
         match self.quarantine(word, shard, who, key, Mode::Invalidate, 0, now) {
@@ -115,6 +133,8 @@ impl<H: BoundName> BoundBook<H> {
         ensures seen { IsBeginning self.old.seen self.new.seen }
         ensures shows { ShowsReply H.opening H.before H.word.shards who (wanted.QaRead key)
             result self.new.seen }
+        ensures fault { ShowsFault H.terms H.before H.word.shards (wanted.QaRead key) result self.new.seen }
+        ensures book { self.new.book.book ≡ book_after who (wanted.QaRead key) result self.old.book.book }
         ensures first { ShowsFirst H.terms H.before H.word.shards who result self.new.seen }
     {
         match self.quarantine(word, shard, who, key, Mode::Refresh, 0, now) {
@@ -141,6 +161,8 @@ impl<H: BoundName> BoundBook<H> {
         ensures seen { IsBeginning self.old.seen self.new.seen }
         ensures shows { ShowsReply H.opening H.before H.word.shards who (wanted.Delta key by)
             result self.new.seen }
+        ensures fault { ShowsFault H.terms H.before H.word.shards (wanted.Delta key by) result self.new.seen }
+        ensures book { self.new.book.book ≡ book_after who (wanted.Delta key by) result self.old.book.book }
         ensures first { ShowsFirst H.terms H.before H.word.shards who result self.new.seen }
     {
         match self.quarantine(word, shard, who, key, Mode::Delta, by, now) {
@@ -168,6 +190,7 @@ impl<H: BoundName> BoundBook<H> {
         ensures seen { IsBeginning self.old.seen self.new.seen }
         ensures shows { ShowsReply H.opening H.before H.word.shards who
             (wanted.Set key token value stamp) result self.new.seen }
+        ensures book { self.new.book ≡ self.old.book }
     {
         match self.set(word, shard, who, key, token, value, stamp, now) {
             Ok(answer) => Reply::Set { answer },
@@ -201,12 +224,19 @@ impl<H: BoundName> BoundBook<H> {
         ensures seen { IsBeginning self.old.seen self.new.seen }
         ensures shows { ShowsReply H.opening H.before H.word.shards who request result
             self.new.seen }
+        ensures fault { ShowsFault H.terms H.before H.word.shards request result self.new.seen }
+        ensures book { self.new.book.book ≡ book_after who request result self.old.book.book }
         ensures first { (writes : Bool) → IsFirst writes request
             → ShowsFirst H.terms H.before H.word.shards who result self.new.seen }
         ensures made { IsMade self.old.quit shard.old.shard request result }
     {
         match request {
-            Wanted::Get { key, floor } => self.reply_to_get(word, shard, who, key, floor, now),
+            Wanted::Get { key, floor } => {
+                match self.reply_to_get(word, shard, who, key, floor, now) {
+                    Ok(got) => Reply::Got { got },
+                    Err(fault) => Reply::Fault { fault },
+                }
+            }
             Wanted::Set {
                 key,
                 token,
@@ -245,10 +275,19 @@ fn refused(fault: ShardFault) -> Reply
     requires { (place : ℕ) → fault ≢ ShardFault.Stranger place }
     ensures { result ≡ Reply.Fault (fault_of fault) }
 {
-    let fault = match fault {
+    Reply::Fault {
+        fault: told_of(fault),
+    }
+}
+
+/// What a session is told of a request that the shard refused.
+fn told_of(fault: ShardFault) -> Fault
+    requires { (place : ℕ) → fault ≢ ShardFault.Stranger place }
+    ensures { result ≡ fault_of fault }
+{
+    match fault {
         ShardFault::Spent { next: _ } => Fault::Spent,
         ShardFault::Memory => Fault::Memory,
         ShardFault::Stranger { shard: _ } => unreachable!(),
-    };
-    Reply::Fault { fault }
+    }
 }

@@ -4,7 +4,7 @@ ghost use Rattle.expiry_sweeper.specs.Follows.{shards_of};
 
 use expiry_sweeper::{SweepReply, SweepWanted, Sweeper};
 use key_shard::{Blocker, Got};
-use session_client::{Reply, Wanted};
+use session_client::{Fault, Wanted};
 
 /// Whether the time is of any account to a request on a shard.
 pub(crate) fn is_timed(request: &Wanted) -> bool {
@@ -20,23 +20,27 @@ pub(crate) fn is_timed(request: &Wanted) -> bool {
 
 /// The sweeper goes on to this shard, where a reader was told now that a quarantine stands there, and one may
 /// be due.
-pub(crate) fn turn_to_due(sweeper: &mut Sweeper, shard: u32, reply: &Reply, due: u64, now: u64)
+pub(crate) fn turn_to_due(
+    sweeper: &mut Sweeper,
+    shard: u32,
+    answer: &Result<Got, Fault>,
+    due: u64,
+    now: u64,
+)
     ensures { shards_of sweeper.new ≡ shards_of sweeper.old }
 {
-    if is_held_up(reply) && due <= now {
+    if is_held_up(answer) && due <= now {
         *sweeper = turned(*sweeper, shard);
     }
 }
 
 /// Whether a reader was told that a quarantine stands on its key.
-fn is_held_up(reply: &Reply) -> bool {
+fn is_held_up(answer: &Result<Got, Fault>) -> bool {
     matches!(
-        reply,
-        Reply::Got {
-            got: Got::Again {
-                standing: Blocker::Q
-            }
-        }
+        answer,
+        Ok(Got::Again {
+            standing: Blocker::Q
+        })
     )
 }
 

@@ -8,6 +8,7 @@ ghost use Rattle.desk_book.specs.Borne.{IsBorne};
 ghost use Rattle.bound_desk.specs.Safe.{IsSafe};
 ghost use Rattle.bound_desk.specs.Made.{IsMade};
 ghost use Rattle.bound_desk.specs.Shown.{ShowsReply};
+ghost use Rattle.bound_desk.specs.Told.{book_after};
 
 use crate::bound_books::BoundBook;
 use bound_hub::{BoundName, BoundShard};
@@ -35,6 +36,8 @@ impl<H: BoundName> BoundBook<H> {
         ensures seen { IsBeginning self.old.seen self.new.seen }
         ensures shows { ShowsReply H.opening H.before H.word.shards who
             (wanted.Sar grant value stamp) result self.new.seen }
+        ensures book { self.new.book.book
+            ≡ book_after who (wanted.Sar grant value stamp) result self.old.book.book }
         ensures made { IsMade self.old.quit shard.old.shard (wanted.Sar grant value stamp) result }
     {
         match value {
@@ -63,6 +66,8 @@ impl<H: BoundName> BoundBook<H> {
         ensures seen { IsBeginning self.old.seen self.new.seen }
         ensures shows { ShowsReply H.opening H.before H.word.shards who
             (wanted.Sar grant (Some value) stamp) result self.new.seen }
+        ensures book { self.new.book.book
+            ≡ book_after who (wanted.Sar grant (Some value) stamp) result self.old.book.book }
         ensures made { IsMade self.old.quit shard.old.shard (wanted.Sar grant (Some value) stamp) result }
     {
         match grant.mode() {
@@ -93,6 +98,8 @@ impl<H: BoundName> BoundBook<H> {
         ensures seen { IsBeginning self.old.seen self.new.seen }
         ensures shows { ShowsReply H.opening H.before H.word.shards who
             (wanted.Apply grant stamp) result self.new.seen }
+        ensures book { self.new.book.book
+            ≡ book_after who (wanted.Apply grant stamp) result self.old.book.book }
         ensures made { IsMade self.old.quit shard.old.shard (wanted.Apply grant stamp) result }
     {
         match grant.mode() {

@@ -8,3 +8,5 @@ pub mod QuitLemmas
 pub mod DropLemmas
 pub mod DeskLemmas
 pub mod SaveLemmas
+pub mod OwnLemmas
+pub mod ServedLemmas

@@ -34,3 +34,13 @@ returns-clause-over g c = λ over.
           close_is_over shards seen who book.present was w.is_writing.result sound c.end-closed.ensures.shows still.present w.is_writing.ensures.0
           (ap (λ b. b || w.is_writing.result) (sym c.was.ensures ∙ w.if-was.false) ∙ sym w.result-is ∙ over)
     ]
+
+pub returns-clause-shows : goal.returns-clause-shows
+returns-clause-shows g c = (
+  c.end-closed.result.was,
+  c.end-closed.ensures.shows,
+  λ opened. elim c.if-was.branch [
+    | then-was w ↦ w.result-is ∙ w.if-was.true
+    | else-was w ↦ absurd (false≢true (sym (sym c.was.ensures ∙ w.if-was.false) ∙ opened))
+  ],
+)

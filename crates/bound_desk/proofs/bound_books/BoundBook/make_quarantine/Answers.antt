@@ -11,6 +11,8 @@ use Rattle.bound_desk.proofs.GrantNotes.{answer_brings}
 use Rattle.bound_desk.proofs.RecordLemmas.{none_is_left}
 use Rattle.bound_desk.proofs.WriteLemmas.{quit_goes_on}
 use Rattle.bound_desk.proofs.WritingLemmas.{answer_stood, ready_goes_on}
+use Rattle.bound_desk.specs.Grants.{IsOldTold}
+use Rattle.bound_desk.proofs.OldLemmas.{old_is_told}
 use Rattle.bound_desk.proofs.bound_books.BoundBook.make_quarantine.Goals as goal
 
 pub invariant_of-self : goal.invariant_of-self
@@ -46,3 +48,11 @@ returns-clause-belongs g c =
 
 pub returns-clause-none_left : goal.returns-clause-none_left
 returns-clause-none_left g c = none_is_left c.args.shard.now.shard c.args.key _ c.quarantine.result c.quarantine.ensures.refusal
+
+pub returns-clause-told : goal.returns-clause-told
+returns-clause-told g c =
+    let a = c.args in
+    let shard = a.shard.now.shard in
+    subst (λ by. IfOk c.quarantine.result (IsOldTold g.H.BoundName.word.shards a.key a.who by a.mode c.quarantine.new.pass.seen)) (to_z-of_z w32 a.by c.ranges.by)
+    (old_is_told shard c.quarantine.new.self.shard a.key a.who a.mode (to_z w32 (of_z w32 a.by)) a.now g.H.BoundName.word.shards shard.terms.no c.quarantine.new.pass.seen
+    c.quarantine.result c.requires.place c.quarantine.ensures.step c.quarantine.ensures.shows c.quarantine.ensures.last)

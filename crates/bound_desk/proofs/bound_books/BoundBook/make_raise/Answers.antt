@@ -6,6 +6,7 @@ use Rattle.bound_desk.proofs.BoundLemmas.{book_goes_on}
 use Rattle.bound_desk.proofs.RaiseLemmas.{answer_brought, IsBrought}
 use Rattle.bound_desk.proofs.WriteLemmas.{quit_goes_on}
 use Rattle.bound_desk.proofs.WritingLemmas.{ready_goes_on}
+use Rattle.bound_desk.proofs.OldLemmas.{raise_is_told}
 use Rattle.bound_desk.proofs.bound_books.BoundBook.make_raise.Goals as goal
 
 pub invariant_of-self : goal.invariant_of-self
@@ -75,3 +76,10 @@ returns-clause-belongs g c =
     ok_gives (IsBrought opening before shards a.grant (entry a.grant.key (past_of shard)) seen) _ c.raise.result (λ answer it. it.belongs)
     (answer_brought opening before shards (is_out shard a.grant) (past_of shard) a.grant shard.terms.no seen (is_some (entry a.grant.key (past_of c.raise.new.self.shard))) c.raise.result
     c.requires.place c.raise.ensures.shows c.raise.ensures.last c.raise.ensures.old (λ e. (c.raise.ensures.unknown e).1))
+
+pub returns-clause-told : goal.returns-clause-told
+returns-clause-told g c =
+    let a = c.args in
+    let shard = a.shard.now.shard in
+    raise_is_told (is_out shard a.grant) shard c.raise.new.self.shard a.grant g.H.BoundName.word.shards shard.terms.no c.raise.new.pass.seen c.raise.result
+    c.requires.place c.raise.ensures.out c.raise.ensures.shows c.raise.ensures.last (λ e. (c.raise.ensures.unknown e).1)
